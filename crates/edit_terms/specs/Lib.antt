@@ -1,0 +1,4 @@
+pub mod Area
+pub mod StateText
+pub mod Held
+pub mod World

@@ -1,0 +1,26 @@
+//! The terms that builders' scripts, worlds and results are made of, and what they mean at one position.
+//!
+//! Every crate of the engine speaks of worlds by these types. Their contracts say exactly what each call
+//! answers; the definitions stand in `specs/`, a file a subject, and know nothing of files, chunks or
+//! threads.
+#![tactic(auto)]
+
+mod axis;
+mod block_name;
+mod block_state;
+mod content;
+mod entity;
+mod items;
+mod pos;
+mod properties;
+mod world_box;
+
+pub use block_name::BlockName;
+pub use block_state::BlockState;
+pub use content::Content;
+pub use entity::{Entities, Entity};
+pub use items::{Items, Name};
+pub use memory::Memory;
+pub use pos::Pos;
+pub use properties::Properties;
+pub use world_box::WorldBox;
