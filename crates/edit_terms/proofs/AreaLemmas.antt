@@ -2,7 +2,7 @@
 use Rattle.std.proofs.Common.{◌≡◌, ℕ, ◌+◌, ◌*◌, ◌/◌, ◌%◌, ◌<◌, ◌≤◌, Bool, true, false, ◌&&◌, ℤ, pos, negsuc, ◌+ℤ◌, ◌-ℤ◌, ◌≤ℤ◌, ◌<ℤ◌, refl, sym, ap, ◌∙◌, subst, arith, rules, leb, ltb}
 use Rattle.std.specs.Prelude.{nat_le, nat_lt, nat_abs, int_le, int_lt}
 use Rattle.std.proofs.lemmas.Bool.{leb-true, ltb-true}
-use Rattle.std.proofs.lemmas.Nat.{mul-add-lt, mul-lt, div-add-mod', div_below, mod_below}
+use Rattle.std.proofs.lemmas.Nat.{mul-add-lt, mul-lt, div-mul-add, mod-mul-add, div-add-mod', div_below, mod_below}
 use Rattle.std.proofs.lemmas.Int.{ints}
 use Rattle.std.specs.Cmp.Derive.{both_true}
 use Rattle.std.proofs.Math.Nat.{div-div-eq-div-mul, mul_comm, mul_assoc}
@@ -99,3 +99,48 @@ block_at_place a i h below =
       held = both_true (both_true (from_back a.least.x w (i % w) x) (from_back a.least.y a.height (i / (w * l)) y)) (from_back a.least.z l (i / w % l) z);
       place = rw (offset_back a.least.x (i % w), offset_back a.least.y (i / (w * l)), offset_back a.least.z (i / w % l)) (parts_of w l (i / (w * l)) (i / w % l) (i % w) (i / w) i row layers);
     }
+
+-- the remainders and quotients of a place are the offsets that it was made of
+parts_of_place : (w l x y z : ℕ) → x < w → z < l → ((x + z * w + y * (w * l)) % w ≡ x) × ((x + z * w + y * (w * l)) / w % l ≡ z) × ((x + z * w + y * (w * l)) / (w * l) ≡ y)
+parts_of_place w l x y z in_w in_l =
+    let flat : x + z * w + y * (w * l) ≡ (y * l + z) * w + x = omega arith in
+    let row : (x + z * w + y * (w * l)) / w ≡ y * l + z = ap (λ (n : ℕ). n / w) flat ∙ div-mul-add (y * l + z) w x in_w in
+    let m : (x + z * w + y * (w * l)) % w ≡ x = ap (λ (n : ℕ). n % w) flat ∙ mod-mul-add (y * l + z) w x in_w in
+    let south : (x + z * w + y * (w * l)) / w % l ≡ z = ap (λ (n : ℕ). n % l) row ∙ mod-mul-add y l z in_l in
+    let up : (x + z * w + y * (w * l)) / (w * l) ≡ y = sym (div-div-eq-div-mul (x + z * w + y * (w * l)) w l) ∙ ap (λ (n : ℕ). n / l) row ∙ div-mul-add y l z in_l in
+    (m, south, up)
+
+-- what one coordinate's test says
+pub record IsOffset (low : ℤ) (size : ℕ) (v : ℤ) : Type 0 where
+  pub below : offset low v < size
+  pub back : low +ℤ pos (offset low v) ≡ v
+
+pub offset_of : (low : ℤ) (size : ℕ) (v : ℤ) → is_from low size v ≡ true → IsOffset low size v
+offset_of low size v h =
+    let parts = and_both (int_le low v) (int_lt v (low +ℤ pos size)) h in
+    let p0 = parts.0 in let p1 = parts.1 in
+    record { below = grind (arith, ints); back = grind (arith, ints) }
+
+-- the block at the place of a block is that block
+pub position_at_index : (a : Area) (p : Pos) → holds a p ≡ true → position_of a (index_of a p) ≡ p
+position_at_index a p h =
+    let first = and_both (is_from a.least.x a.width p.x && is_from a.least.y a.height p.y) (is_from a.least.z a.length p.z) h in
+    let two = and_both (is_from a.least.x a.width p.x) (is_from a.least.y a.height p.y) first.0 in
+    let x = offset_of a.least.x a.width p.x two.0 in
+    let y = offset_of a.least.y a.height p.y two.1 in
+    let z = offset_of a.least.z a.length p.z first.1 in
+    let parts = parts_of_place a.width a.length (offset a.least.x p.x) (offset a.least.y p.y) (offset a.least.z p.z) x.below z.below in
+    let ex : a.least.x +ℤ pos (index_of a p % a.width) ≡ p.x = ap (λ (n : ℕ). a.least.x +ℤ pos n) parts.0 ∙ x.back in
+    let ey : a.least.y +ℤ pos (index_of a p / (a.width * a.length)) ≡ p.y = ap (λ (n : ℕ). a.least.y +ℤ pos n) parts.2 ∙ y.back in
+    let ez : a.least.z +ℤ pos (index_of a p / a.width % a.length) ≡ p.z = ap (λ (n : ℕ). a.least.z +ℤ pos n) parts.1 ∙ z.back in
+    λ i. record { x = ex i; y = ey i; z = ez i }
+
+-- a block of the box has a place below the volume
+pub held_below : (a : Area) (p : Pos) → holds a p ≡ true → index_of a p < volume a
+held_below a p h =
+    let first = and_both (is_from a.least.x a.width p.x && is_from a.least.y a.height p.y) (is_from a.least.z a.length p.z) h in
+    let two = and_both (is_from a.least.x a.width p.x) (is_from a.least.y a.height p.y) first.0 in
+    let x = offset_of a.least.x a.width p.x two.0 in
+    let y = offset_of a.least.y a.height p.y two.1 in
+    let z = offset_of a.least.z a.length p.z first.1 in
+    place_below a.width a.height a.length (offset a.least.x p.x) (offset a.least.y p.y) (offset a.least.z p.z) x.below y.below z.below

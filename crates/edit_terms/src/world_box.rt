@@ -98,6 +98,7 @@ impl WorldBox {
     pub fn index_of(&self, p: Pos) -> Option<u32>
         ensures index { MatchOption result (holds self.now p ≡ false) (λ index. IsBlockAt self.now index p) }
         ensures below { IfSome result (λ index. index < volume self.now) }
+        ensures small { IfSome result (λ index. index < 33554432) }
     {
         if !self.holds(p) {
             return None;
