@@ -5,6 +5,7 @@ use crate::block_name::BlockName;
 use crate::properties::Properties;
 use memory::Memory;
 use std::alloc::Global;
+use std::hash::{Hash, Hasher};
 use std::marker::Model;
 use std::sync::Arc;
 
@@ -100,5 +101,41 @@ impl Parts {
             name: self.name.copy(alloc)?,
             properties: self.properties.copy(alloc)?,
         })
+    }
+}
+
+/// Two states are equal where name and properties are, owned or shared.
+impl PartialEq for BlockState {
+    ghost use Rattle.std.specs.Cmp.{partial_equiv_from_equiv};
+    ghost use Rattle.edit_terms.specs.Same.{same_state, state_equivalence};
+
+    ghost eq = { same_state };
+
+    ghost laws = { partial_equiv_from_equiv state_equivalence };
+
+    fn eq(&self, other: &BlockState) -> bool {
+        self.name() == other.name() && self.properties().as_slice() == other.properties().as_slice()
+    }
+}
+
+impl Eq for BlockState {
+    ghost use Rattle.edit_terms.specs.Same.{state_equivalence};
+
+    ghost laws = { state_equivalence };
+}
+
+impl Hash for BlockState {
+    ghost use Rattle.std.specs.Prelude.{◌++◌};
+    ghost use Rattle.std.specs.Hash as fed;
+    ghost use Rattle.std.specs.Hash.{same_Alike};
+    ghost use Rattle.edit_terms.specs.Same.{state_decides};
+
+    ghost hash_input = { λ s. fed.slice fed.u8 s.name ++ fed.slice (λ p. fed.slice fed.u8 p.0 ++ fed.slice fed.u8 p.1) s.properties };
+
+    ghost respects_eq = { (same_Alike (λ s. fed.slice fed.u8 s.name ++ fed.slice (λ p. fed.slice fed.u8 p.0 ++ fed.slice fed.u8 p.1) s.properties) state_decides).fed };
+
+    fn hash<H: Hasher>(&self, state: &mut H) {
+        self.name().hash(state);
+        self.properties().as_slice().hash(state);
     }
 }

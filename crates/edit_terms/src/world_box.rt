@@ -2,7 +2,10 @@ ghost use Rattle.std.specs.Prelude.{◌≡◌, ◌+◌, ◌-◌, ◌*◌, ◌<�
 ghost use Rattle.std.specs.Int.{int_div_euclid};
 ghost use Rattle.edit_terms.specs.Area.{Area, holds, is_from, is_within, is_on_map, is_size, is_sized, is_world_box, volume, offset, index_of, position_of, sixteenth, columns, chunks, chunk_of, IsBlockAt};
 
-use crate::axis::{column_x, column_z, columns_x, columns_z, is_from_x, is_from_y, is_from_z, is_within_x, is_within_y, is_within_z, moved, offset_x, offset_y, offset_z};
+use crate::axis::{
+    column_x, column_z, columns_x, columns_z, is_from_x, is_from_y, is_from_z, is_within_x,
+    is_within_y, is_within_z, moved, offset_x, offset_y, offset_z,
+};
 use crate::pos::Pos;
 use std::marker::Model;
 
@@ -90,7 +93,9 @@ impl WorldBox {
     pub fn holds(&self, p: Pos) -> bool
         ensures { result ≡ holds self.now p }
     {
-        is_from_x(&self.least, self.width, &p) && is_from_y(&self.least, self.height, &p) && is_from_z(&self.least, self.length, &p)
+        is_from_x(&self.least, self.width, &p)
+            && is_from_y(&self.least, self.height, &p)
+            && is_from_z(&self.least, self.length, &p)
     }
 
     /// The place of a block in the list of the box's blocks: x runs fastest, then z, then y. None

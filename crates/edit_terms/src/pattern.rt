@@ -1,0 +1,22 @@
+use crate::block_state::BlockState;
+use crate::items::Items;
+
+/// What an entry of a pattern puts in a position's place.
+#[derive(Debug, Drop)]
+pub enum Value {
+    /// This state, without an entity.
+    Fixed(BlockState),
+}
+
+/// One choice of a pattern, of a weight from 1 to 1,000,000.
+#[derive(Debug, Drop)]
+pub struct Entry {
+    pub weight: u32,
+    pub value: Value,
+}
+
+/// A weighted choice among 1 to 32 values.
+#[derive(Debug, Drop)]
+pub struct Pattern {
+    pub entries: Items<Entry>,
+}
