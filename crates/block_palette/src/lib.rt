@@ -4,11 +4,11 @@
 //! entry keeps its number for good, a new one goes last, and no two entries of a palette are equal.
 #![tactic(auto)]
 
-mod numbering;
+mod first_appearance;
 mod palette;
 
 pub use memory::Memory;
-pub use numbering::number_by_first_appearance;
+pub use first_appearance::number_by_first_appearance;
 pub use palette::Palette;
 
 #[cfg(test)]

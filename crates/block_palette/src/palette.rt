@@ -64,6 +64,7 @@ impl<S: Eq + Hash + Drop> Palette<S> {
     }
 
     /// The number of the entry that equals `entry`, or `None` where no entry does.
+    #[tactic(auto, using(crate::proofs::Numbering::number_from_position))]
     pub fn find(&self, entry: &S) -> Option<u32>
         ensures number { result ≡ position (S.eq entry.now) self.now }
         ensures there { is_some result ≡ list_any (S.eq entry.now) self.now }
