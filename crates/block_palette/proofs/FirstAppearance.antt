@@ -1,5 +1,6 @@
 -- The law of numbering by first appearance holds of the empty list, and goes on holding with one more item.
-use Rattle.std.proofs.Common.{◌≡◌, ℕ, ◌+◌, ◌<◌, ◌≤◌, Bool, true, false, nat_lt, List, [], ◌∷◌, ◌++◌, length, take, get_or, Contains, All, refl, sym, ap, subst, ◌∙◌, arith}
+-- Where the test decides equality, it gives back the items: `slice_get-numbers`.
+use Rattle.std.proofs.Common.{◌≡◌, ℕ, ◌+◌, ◌<◌, ◌≤◌, Bool, true, false, nat_lt, List, [], ◌∷◌, ◌++◌, map, length, take, get_or, Some, slice_get, Contains, All, refl, sym, ap, subst, ◌∙◌, arith}
 use borrow.Author.Tests.{ltb-true, ltb-false}
 use Rattle.std.specs.List.{list_any, AllZip, IsDistinct}
 use Rattle.std.specs.Cmp.{IsEquivalence}
@@ -10,7 +11,7 @@ use Rattle.std.proofs.lemmas.List.Sums.{prefix_len-le-length}
 use Rattle.std.proofs.lemmas.Map.Keys.{IsDistinct-push}
 use Rattle.block_palette.specs.Numbering.{number_in, with_entry, distinct, numbers, IsNumberOf}
 use Rattle.block_palette.proofs.Places.{position_or_len-none, passes_at_place, slice_get-append, slice_get-last, AllZip-implied, AllZip-append_last, AllZip-lengths}
-use Rattle.block_palette.proofs.Numbering.{distinct-push, numbers-push}
+use Rattle.block_palette.proofs.Numbering.{slice_get-number, distinct-push, numbers-push}
 
 -- an index of a list with one more element is an index of the list, or the last
 by_index : {P : ℕ → Type 0} (n : ℕ) → ((k : ℕ) → k < n → P k) → P n → (k : ℕ) → k < n + 1 → P k
@@ -92,3 +93,14 @@ module _ {A : Type 0} {same : A → A → Bool} (laws : IsEquivalence same) wher
   pub IsNumbering-distinct : (xs : List A) → IsNumbering same xs (distinct same xs) (numbers same xs)
   unfolding distinct numbers IsDistinct
   IsNumbering-distinct xs = IsNumbering-append [] xs (record { unique = tt; among = λ k d lt. absurd (omega arith); named = tt; used = λ n lt. absurd (omega arith); order = λ k lt. absurd (omega arith) })
+
+-- where the test decides equality, the items can be read back from their numbers
+pub slice_get-numbers : {A : Type 0} {same : A → A → Bool} (laws : IsEquivalence same) → ((x y : A) → same x y ≡ true → x ≡ y) → (xs : List A)
+    → map (slice_get (distinct same xs)) (numbers same xs) ≡ map Some xs
+slice_get-numbers {A} {same} laws decides xs = each xs (numbers same xs) (IsNumbering-distinct laws xs).named
+  where
+    each : (ys : List A) (ns : List ℕ) → AllZip (IsNumberOf same (distinct same xs)) ys ns → map (slice_get (distinct same xs)) ns ≡ map Some ys
+    each [] [] h = refl
+    each [] (n ∷ ns) h = absurd h
+    each (y ∷ ys) [] h = absurd h
+    each (y ∷ ys) (n ∷ ns) h = λ i. slice_get-number same decides (distinct same xs) y n h.0 i ∷ each ys ns h.1 i

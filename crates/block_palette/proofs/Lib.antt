@@ -1,3 +1,3 @@
 mod Places
 pub mod Numbering
-mod FirstAppearance
+pub mod FirstAppearance

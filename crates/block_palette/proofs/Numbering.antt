@@ -2,11 +2,12 @@
 -- `distinct-push` and `numbers-push`. A loop that numbers one item of a list after the other, from an empty palette,
 -- keeps by them that its palette is `distinct` of the items so far, and its numbers are `numbers` of them.
 -- From the two follows the law of numbering by first appearance, one item after the other.
-use Rattle.std.proofs.Common.{◌≡◌, ℕ, Bool, true, false, not, ◌||◌, List, [], ◌∷◌, ◌++◌, map, get_or, filter, Some, position, refl, sym, ap, ◌∙◌}
+use Rattle.std.proofs.Common.{◌≡◌, ℕ, Bool, true, false, not, ◌||◌, List, [], ◌∷◌, ◌++◌, map, length, get_or, filter, Some, slice_get, position, ◌≤◌, arith, refl, sym, ap, ◌∙◌}
 use Rattle.std.specs.List.{list_any, AllByRecursion}
 use Rattle.std.specs.Cmp.{IsEquivalence}
 use Rattle.std.proofs.lemmas.List.{append-nil, map-append}
 use Rattle.std.proofs.lemmas.List.Elements.{filter-append}
+use Rattle.std.proofs.lemmas.List.Filters.{length-filter_both}
 use Rattle.std.proofs.lemmas.List.Quantifiers.{position-Some}
 use Rattle.std.proofs.lemmas.Map.Views.{any-filter_same}
 use Rattle.std.proofs.lemmas.Option.{slice_get-get_or}
@@ -18,6 +19,19 @@ pub number_from_position : {A : Type 0} (same : A → A → Bool) (entries : Lis
 number_from_position same entries x n h =
     let at = position-Some (same x) entries n x h in
     record { entry = get_or entries n x; there = slice_get-get_or entries n x at.0; alike = at.1 }
+
+-- there are no more entries than items
+pub length-distinct : {A : Type 0} (same : A → A → Bool) (xs : List A) → length (distinct same xs) ≤ length xs
+unfolding distinct
+length-distinct same [] = omega arith
+length-distinct same (x ∷ xs) =
+    let rest = length-distinct same xs in
+    let parts = length-filter_both (same x) (λ y. not (same x y)) (λ y. refl) (distinct same xs) in
+    omega arith
+
+-- where the test decides equality, a number names the item itself
+pub slice_get-number : {A : Type 0} (same : A → A → Bool) → ((x y : A) → same x y ≡ true → x ≡ y) → (entries : List A) (x : A) (n : ℕ) → IsNumberOf same entries x n → slice_get entries n ≡ Some x
+slice_get-number same decides entries x n h = h.there ∙ ap Some (sym (decides x h.entry h.alike))
 
 -- ---- one more item
 

@@ -8,7 +8,7 @@ mod first_appearance;
 mod palette;
 
 pub use memory::Memory;
-pub use first_appearance::number_by_first_appearance;
+pub use first_appearance::numbering_law;
 pub use palette::Palette;
 
 #[cfg(test)]

@@ -1,5 +1,5 @@
 //! The palette.
-ghost use Rattle.std.specs.Prelude.{◌≡◌, ◌-◌, ◌+◌, ◌^◌, ◌<◌, ◌≤◌, ◌↔◌, [], length, is_some, slice_get, option_copied, position, IsTrue, IsSome, IfSome, IfOk, OnOk, OnErr};
+ghost use Rattle.std.specs.Prelude.{◌≡◌, ◌-◌, ◌+◌, ◌^◌, ◌<◌, ◌≤◌, ◌↔◌, [], length, take, is_some, slice_get, option_copied, position, IsTrue, IsSome, IfSome, IfOk, OnOk, OnErr};
 ghost use Rattle.std.specs.List.{list_any, IsDistinct};
 ghost use Rattle.block_palette.specs.Numbering.{number_in, with_entry, IsNumberOf};
 
@@ -47,6 +47,8 @@ impl<S: Eq + Hash + Drop> Palette<S> {
         ensures number { IfOk result (λ n. n ≡ number_in S.eq self.old entry) }
         ensures entries { OnOk result (self.new ≡ with_entry S.eq self.old entry) }
         ensures named { IfOk result (IsNumberOf S.eq self.new entry) }
+        ensures kept { take (length self.old) self.new ≡ self.old }
+        ensures grows { length self.new ≤ length self.old + 1 }
         ensures unchanged { OnErr result (self.new ≡ self.old) }
         ensures distinct { IsDistinct S.eq self.new }
     {
