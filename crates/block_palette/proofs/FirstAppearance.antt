@@ -1,6 +1,6 @@
 -- The law of numbering by first appearance holds of the empty list, and goes on holding with one more item.
 -- Where the test decides equality, it gives back the items: `slice_get-numbers`.
-use Rattle.std.proofs.Common.{◌≡◌, ℕ, ◌+◌, ◌<◌, ◌≤◌, Bool, true, false, nat_lt, List, [], ◌∷◌, ◌++◌, map, length, take, get_or, Some, slice_get, Contains, All, refl, sym, ap, subst, ◌∙◌, arith}
+use Rattle.std.proofs.Common.{◌≡◌, ℕ, ◌+◌, ◌<◌, ◌≤◌, Bool, true, false, nat_lt, List, [], ◌∷◌, ◌++◌, map, length, take, get_or, Some, slice_get, Contains, All, refl, ap, subst, ◌∙◌, arith}
 use borrow.Author.Tests.{ltb-true, ltb-false}
 use Rattle.std.specs.List.{list_any, AllZip, IsDistinct}
 use Rattle.std.specs.Cmp.{IsEquivalence}
@@ -45,6 +45,7 @@ module _ {A : Type 0} {same : A → A → Bool} (laws : IsEquivalence same) wher
           let first = get_or_append_left ns (n ∷ []) 0 i (omega arith) in
           let cut = take-append-le i xs (x ∷ []) (omega arith) in
           rw (first, cut) (h i l)
+
       last : get_or (ns ++ n ∷ []) (length xs) 0 ≤ length (distinct same (take (length xs) (xs ++ x ∷ [])))
       last =
           let own : get_or (ns ++ n ∷ []) (length xs) 0 ≡ n = ap (λ i. get_or (ns ++ n ∷ []) i 0) long ∙ get_or-append_seam ns n [] 0 in

@@ -1,11 +1,11 @@
 -- How the distinct entries and the numbers of a list grow with one more item, in the words of `Palette::number`:
--- `distinct-push` and `numbers-push`. A loop that numbers one item of a list after the other, from an empty palette,
--- keeps by them that its palette is `distinct` of the items so far, and its numbers are `numbers` of them.
--- From the two follows the law of numbering by first appearance, one item after the other.
-use Rattle.std.proofs.Common.{◌≡◌, ℕ, Bool, true, false, not, ◌||◌, List, [], ◌∷◌, ◌++◌, map, length, get_or, filter, Some, slice_get, position, ◌≤◌, arith, refl, sym, ap, ◌∙◌}
+-- `distinct-push` and `numbers-push`, and for a loop by index `distinct_next` and `numbers_next`.
+-- A loop that numbers one item of a list after the other, from an empty palette, keeps by them that its palette is
+-- `distinct` of the items so far, and its numbers are `numbers` of them: `number_each` of the tests is one.
+use Rattle.std.proofs.Common.{◌≡◌, ℕ, Bool, true, false, not, ◌||◌, List, [], ◌∷◌, ◌++◌, map, length, take, get_or, filter, Some, slice_get, position, ◌+◌, ◌<◌, ◌≤◌, arith, refl, sym, ap, ◌∙◌}
 use Rattle.std.specs.List.{list_any, AllByRecursion}
 use Rattle.std.specs.Cmp.{IsEquivalence}
-use Rattle.std.proofs.lemmas.List.{append-nil, map-append}
+use Rattle.std.proofs.lemmas.List.{append-nil, map-append, take_more}
 use Rattle.std.proofs.lemmas.List.Elements.{filter-append}
 use Rattle.std.proofs.lemmas.List.Filters.{length-filter_both}
 use Rattle.std.proofs.lemmas.List.Quantifiers.{position-Some}
@@ -19,6 +19,15 @@ pub number_from_position : {A : Type 0} (same : A → A → Bool) (entries : Lis
 number_from_position same entries x n h =
     let at = position-Some (same x) entries n x h in
     record { entry = get_or entries n x; there = slice_get-get_or entries n x at.0; alike = at.1 }
+
+-- no items have no entries and no numbers
+pub distinct-nil : {A : Type 0} (same : A → A → Bool) → distinct same [] ≡ []
+unfolding distinct
+distinct-nil same = refl
+
+pub numbers-nil : {A : Type 0} (same : A → A → Bool) → numbers same [] ≡ []
+unfolding numbers
+numbers-nil same = refl
 
 -- there are no more entries than items
 pub length-distinct : {A : Type 0} (same : A → A → Bool) (xs : List A) → length (distinct same xs) ≤ length xs
@@ -42,6 +51,7 @@ module _ {A : Type 0} {same : A → A → Bool} (laws : IsEquivalence same) wher
     where
       other : same y a ≡ false → (z : A) → same y z ≡ true → not (same a z) ≡ true
       other e z h = ap not (laws.symm a z ∙ sym (laws.congr y z a h) ∙ e)
+
       by : (b : Bool) → same y a ≡ b → list_any (same y) (a ∷ filter (λ z. not (same a z)) ds) ≡ (same y a || list_any (same y) ds)
       by true e = rw e refl
       by false e = rw e (any-filter_same (same y) (λ z. not (same a z)) true (other e) ds)
@@ -91,8 +101,21 @@ module _ {A : Type 0} {same : A → A → Bool} (laws : IsEquivalence same) wher
   numbers-push xs x =
       let ds = distinct same xs in
       let first : map (number_in same (with_entry same ds x)) xs ≡ map (number_in same ds) xs =
-              map-alike _ _ xs (AllByRecursion-implied (number_in-with_entry ds x) xs (items_found xs)) in
+      map-alike _ _ xs (AllByRecursion-implied (number_in-with_entry ds x) xs (items_found xs)) in
       ap (λ es. map (number_in same es) (xs ++ x ∷ [])) (distinct-push xs x)
-          ∙ map-append (number_in same (with_entry same ds x)) xs (x ∷ [])
-          ∙ ap (λ ns. ns ++ number_in same (with_entry same ds x) x ∷ []) first
-          ∙ ap (λ n. map (number_in same ds) xs ++ n ∷ []) (number_in-with_entry_own ds x)
+      ∙ map-append (number_in same (with_entry same ds x)) xs (x ∷ [])
+      ∙ ap (λ ns. ns ++ number_in same (with_entry same ds x) x ∷ []) first
+      ∙ ap (λ n. map (number_in same ds) xs ++ n ∷ []) (number_in-with_entry_own ds x)
+
+  -- The same two for a loop over xs: what its turn with the item at i makes of a palette and of the numbers so far.
+  module _ (xs : List A) (i : ℕ) (d : A) (old : List A) (within : i < length xs) (old_is : old ≡ distinct same (take i xs)) where
+    pub distinct_next : (new : List A) → new ≡ with_entry same old (get_or xs i d) → new ≡ distinct same (take (i + 1) xs)
+    distinct_next new e =
+        e ∙ ap (λ ds. with_entry same ds (get_or xs i d)) old_is
+        ∙ sym (ap (distinct same) (take_more xs i d within) ∙ distinct-push (take i xs) (get_or xs i d))
+
+    pub numbers_next : (ns : List ℕ) (n : ℕ) → ns ≡ numbers same (take i xs) → n ≡ number_in same old (get_or xs i d) → ns ++ n ∷ [] ≡ numbers same (take (i + 1) xs)
+    numbers_next ns n e f =
+        ap (λ m. ns ++ m ∷ []) (f ∙ ap (λ ds. number_in same ds (get_or xs i d)) old_is)
+        ∙ ap (λ ms. ms ++ number_in same (distinct same (take i xs)) (get_or xs i d) ∷ []) e
+        ∙ sym (ap (numbers same) (take_more xs i d within) ∙ numbers-push (take i xs) (get_or xs i d))

@@ -12,15 +12,8 @@ pub fn numbering_law<S: Eq>(items: &[S])
     ensures unique { IsDistinct S.eq (distinct S.eq items.now) }
     ensures few { length (distinct S.eq items.now) ≤ length items.now }
     ensures among { All (Contains items.now) (distinct S.eq items.now) }
-    ensures named {
-        AllZip (IsNumberOf S.eq (distinct S.eq items.now)) items.now (numbers S.eq items.now)
-    }
-    ensures used {
-        (n : ℕ) → n < length (distinct S.eq items.now) → Contains (numbers S.eq items.now) n
-    }
-    ensures order {
-        (k : ℕ) → k < length items.now →
-        slice_index (numbers S.eq items.now) k ≤ length (distinct S.eq (take k items.now))
-    }
-{
-}
+    ensures named { AllZip (IsNumberOf S.eq (distinct S.eq items.now)) items.now (numbers S.eq items.now) }
+    ensures used { (n : ℕ) → n < length (distinct S.eq items.now) → Contains (numbers S.eq items.now) n }
+    ensures order { (k : ℕ) → k < length items.now →
+        slice_index (numbers S.eq items.now) k ≤ length (distinct S.eq (take k items.now)) }
+{}

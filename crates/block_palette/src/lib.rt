@@ -7,8 +7,8 @@
 mod first_appearance;
 mod palette;
 
-pub use memory::Memory;
 pub use first_appearance::numbering_law;
+pub use memory::Memory;
 pub use palette::Palette;
 
 #[cfg(test)]

@@ -2,7 +2,7 @@
 ghost use Rattle.std.specs.Prelude.{◌≡◌, ◌-◌, ◌^◌, ◌<◌, length, nat_eq, IfOk};
 ghost use Rattle.block_palette.specs.Numbering.{distinct, numbers};
 
-use crate::{numbering_law, Memory, Palette};
+use crate::{Memory, Palette, numbering_law};
 use std::alloc::Global;
 use std::test::Fail;
 
@@ -13,10 +13,25 @@ struct Block {
     upright: bool,
 }
 
-const AIR: Block = Block { kind: 0, upright: false };
-const LOG: Block = Block { kind: 17, upright: false };
-const UPRIGHT_LOG: Block = Block { kind: 17, upright: true };
-const STONE: Block = Block { kind: 1, upright: false };
+const AIR: Block = Block {
+    kind: 0,
+    upright: false,
+};
+
+const LOG: Block = Block {
+    kind: 17,
+    upright: false,
+};
+
+const UPRIGHT_LOG: Block = Block {
+    kind: 17,
+    upright: true,
+};
+
+const STONE: Block = Block {
+    kind: 1,
+    upright: false,
+};
 
 /// Numbers the words one after the other, as a crate above numbers a list.
 fn number_each(alloc: Global, words: &[u32]) -> Result<(Palette<u32>, Vec<u32>), Memory>
