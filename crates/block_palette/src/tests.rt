@@ -4,6 +4,7 @@ ghost use Rattle.block_palette.specs.Numbering.{distinct, numbers};
 
 use crate::{Memory, Palette, numbering_law};
 use std::alloc::Global;
+use std::hash::Hash;
 use std::test::Fail;
 
 /// A block by its kind and whether it stands upright.
@@ -48,6 +49,14 @@ fn number_each(alloc: Global, words: &[u32]) -> Result<(Palette<u32>, Vec<u32>),
     Ok((palette, found))
 }
 
+/// Takes what threads may hand on and share.
+fn may_cross_threads<T: Send + Sync>(_value: &T) {}
+
+/// A palette of such entries is such a value.
+fn palette_may_cross_threads<S: Eq + Hash + Drop + Send + Sync>(palette: &Palette<S>) {
+    may_cross_threads(palette);
+}
+
 #[test]
 fn numbers_blocks_by_first_appearance(rt: HostRuntime) -> Result<(), Fail> {
     let mut palette = Palette::new(rt.alloc());
@@ -69,6 +78,7 @@ fn numbers_blocks_by_first_appearance(rt: HostRuntime) -> Result<(), Fail> {
         assert_eq!(rt; palette.entry(number).copied(), Some(block), "{block:?}");
     }
     assert!(rt; !palette.is_empty());
+    palette_may_cross_threads(&palette);
     assert!(rt; palette.find(&STONE).is_none());
     for past in [3, 4, u32::MAX] {
         assert!(rt; palette.entry(past).is_none(), "{past}");
