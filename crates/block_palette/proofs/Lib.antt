@@ -1,0 +1,3 @@
+mod Places
+pub mod Numbering
+pub mod FirstAppearance
