@@ -1,0 +1,5 @@
+pub mod Session
+pub mod Order
+pub mod Effect
+pub mod Fold
+pub mod Reply
