@@ -1,3 +1,6 @@
 pub mod Count
 pub mod Store
 pub mod Output
+pub mod FileList
+pub mod FailPlan
+pub mod Memory

@@ -4,11 +4,22 @@
 //! have left, and that a failure was counted.
 #![tactic(auto)]
 
+mod fail_plan;
+mod file_list;
 mod jobs;
+mod memory_shelf;
+mod memory_sink;
+mod null_sink;
 mod output;
+mod steady_shelf;
 mod store;
 
+pub use fail_plan::Fail;
 pub use jobs::{Gate, OpenGate};
 pub use memory::Memory;
+pub use memory_shelf::MemoryShelf;
+pub use memory_sink::MemorySink;
+pub use null_sink::NullSink;
 pub use output::Sink;
+pub use steady_shelf::SteadyShelf;
 pub use store::{Failed, LoadError, Shelf};

@@ -1,0 +1,86 @@
+ghost use Rattle.std.specs.Prelude.{◌≡◌, Some};
+ghost use Rattle.std.specs.Option.{option_copied, option_and_then};
+ghost use Rattle.run_ports.specs.FileList.{listed, first_files};
+
+use crate::fail_plan::{Fail, FailPlan};
+use crate::file_list::{bytes_of, is_listed, replace};
+use crate::store::{Failed, LoadError, Shelf};
+use std::alloc::Global;
+
+/// A file store in memory, which tells its files.
+///
+/// The first entry of a name in its list is the file, and later ones play no role. A load or save of a
+/// name that isn't in the list fails. Loads and saves are counted together, as calls from 0, and its
+/// plan says which of these calls fail. One count of failures serves all names, for loads and saves.
+#[derive(Drop)]
+pub struct MemoryShelf {
+    files: Vec<(String, Vec<u8>)>,
+    plan: FailPlan,
+    faults: u64,
+    longs: u64,
+}
+
+impl MemoryShelf {
+    /// The files, by name, and the calls that are to fail. Where a call is named twice, its first entry
+    /// counts.
+    pub fn new(files: Vec<(String, Vec<u8>)>, fails: Vec<Fail>) -> MemoryShelf
+        ensures { ⟦<MemoryShelf as Shelf>⟧.seen result ≡ record {
+          files = Some (first_files (listed files.items));
+          faults = λ _. 0;
+          save_faults = λ _. 0;
+          longs = 0;
+        } }
+    {
+        MemoryShelf {
+            files,
+            plan: FailPlan::new(fails),
+            faults: 0,
+            longs: 0,
+        }
+    }
+
+    /// The bytes of a file, for a look at what a run left.
+    pub fn file(&self, name: &str) -> Option<&[u8]>
+        ensures { option_copied result ≡
+            option_and_then (λ files. files name.now) (⟦<MemoryShelf as Shelf>⟧.seen self.now).files }
+    {
+        bytes_of(&self.files, name)
+    }
+}
+
+impl Shelf for MemoryShelf {
+    ghost use Rattle.run_ports.specs.Memory.{memory_store};
+
+    ghost seen = { memory_store };
+
+    fn load(&mut self, alloc: Global, name: &str, limit: u64) -> Result<Vec<u8>, LoadError> {
+        let planned = self.plan.next_call();
+        let (Some(bytes), None) = (bytes_of(&self.files, name), planned) else {
+            self.faults = self.faults.saturating_add(1);
+            return Err(LoadError::Failed);
+        };
+        if bytes.len() as u64 > limit {
+            self.longs = self.longs.saturating_add(1);
+            return Err(LoadError::TooLong);
+        }
+        Ok(bytes.to_vec(alloc).map_err(|_| LoadError::Memory)?)
+    }
+
+    fn save(&mut self, name: &str, mut bytes: Vec<u8>) -> Result<(), Failed> {
+        let planned = self.plan.next_call();
+        if !is_listed(&self.files, name) {
+            self.faults = self.faults.saturating_add(1);
+            return Err(Failed);
+        }
+        let Some(fail) = planned else {
+            replace(&mut self.files, name, bytes);
+            return Ok(());
+        };
+        self.faults = self.faults.saturating_add(1);
+        if let Some(kept) = fail.kept {
+            bytes.truncate(kept as usize);
+            replace(&mut self.files, name, bytes);
+        }
+        Err(Failed)
+    }
+}

@@ -1,0 +1,68 @@
+ghost use Rattle.std.specs.Prelude.{◌≡◌, ◌≤◌, [], Some, IfOk, vec_len, vec_capacity};
+
+use crate::fail_plan::{Fail, FailPlan};
+use crate::output::Sink;
+use crate::store::Failed;
+use memory::Memory;
+use std::alloc::Global;
+
+/// An output in memory, which tells what was written.
+///
+/// It has room for a number of bytes. A put that doesn't fit fails and takes nothing, and so do those
+/// that its plan names, of which each takes as many bytes as the plan says. Puts are counted from 0.
+#[derive(Drop)]
+pub struct MemorySink {
+    written: Vec<u8>,
+    room: usize,
+    plan: FailPlan,
+    faults: u64,
+    ghost in_room: { vec_len written ≤ room },
+    ghost room_is_there: { room ≤ vec_capacity written },
+}
+
+impl MemorySink {
+    /// Room for `room` bytes, and the puts that are to fail. Where a put is named twice, its first entry
+    /// counts.
+    pub fn new(alloc: Global, room: u32, fails: Vec<Fail>) -> Result<MemorySink, Memory>
+        ensures { IfOk result (λ sink. ⟦<MemorySink as Sink>⟧.seen sink ≡ record {
+          written = Some [];
+          faults = 0;
+        }) }
+    {
+        let room = room as usize;
+        Ok(MemorySink {
+            written: Vec::with_capacity(alloc, room)?,
+            room,
+            plan: FailPlan::new(fails),
+            faults: 0,
+        })
+    }
+
+    /// What was written so far.
+    pub fn written(&self) -> &[u8]
+        ensures { (⟦<MemorySink as Sink>⟧.seen self.now).written ≡ Some result.now }
+    {
+        &self.written
+    }
+}
+
+impl Sink for MemorySink {
+    ghost use Rattle.run_ports.specs.Memory.{memory_output};
+
+    ghost seen = { memory_output };
+
+    fn put(&mut self, bytes: &[u8]) -> Result<(), Failed> {
+        let planned = self.plan.next_call();
+        if bytes.len() > self.room - self.written.len() {
+            self.faults = self.faults.saturating_add(1);
+            return Err(Failed);
+        }
+        let Some(fail) = planned else {
+            self.written.extend_from_slice(bytes).unwrap();
+            return Ok(());
+        };
+        self.faults = self.faults.saturating_add(1);
+        self.written.extend_from_slice(fail.kept_of(bytes)).unwrap();
+        Err(Failed)
+    }
+}
