@@ -10,10 +10,13 @@ mod jobs;
 mod memory_shelf;
 mod memory_sink;
 mod null_sink;
+mod disk_shelf;
+mod term_sink;
 mod output;
 mod steady_shelf;
 mod store;
 
+pub use disk_shelf::DiskShelf;
 pub use fail_plan::Fail;
 pub use jobs::{Gate, OpenGate};
 pub use memory::Memory;
@@ -23,3 +26,4 @@ pub use null_sink::NullSink;
 pub use output::Sink;
 pub use steady_shelf::SteadyShelf;
 pub use store::{Failed, LoadError, Shelf};
+pub use term_sink::TermSink;

@@ -1,0 +1,97 @@
+ghost use Rattle.std.specs.Prelude.{◌≡◌, ◌≤◌, None, IfOk, length};
+
+use crate::store::{Failed, LoadError, Shelf};
+use std::alloc::Global;
+use std::fs::File;
+use std::io::{ErrorKind, Read};
+use std::rt::Files;
+use std::{fs, io};
+
+/// The files of the system, by their paths. It tells nothing of what they hold.
+///
+/// A load reads at most one byte more than its limit, so a device without an end takes no more memory
+/// than a file that is too long.
+#[derive(Drop)]
+pub struct DiskShelf<R> {
+    rt: R,
+    faults: u64,
+    longs: u64,
+}
+
+impl<R: Files + Drop> DiskShelf<R> {
+    pub fn new(rt: R) -> DiskShelf<R>
+        ensures { ⟦<DiskShelf<R> as Shelf>⟧.seen result ≡ record {
+            files = None;
+            faults = λ _. 0;
+            save_faults = λ _. 0;
+            longs = 0 } }
+    {
+        DiskShelf {
+            rt,
+            faults: 0,
+            longs: 0,
+        }
+    }
+}
+
+impl<R: Files + Drop> Shelf for DiskShelf<R> {
+    ghost use Rattle.std.specs.Prelude.{None};
+
+    ghost seen = { λ shelf. record {
+        files = None;
+        faults = λ _. shelf.faults;
+        save_faults = λ _. shelf.faults;
+        longs = shelf.longs } };
+
+    fn load(&mut self, alloc: Global, name: &str, limit: u64) -> Result<Vec<u8>, LoadError> {
+        match read_file(&self.rt, alloc, name, limit) {
+            Err(LoadError::Failed) => {
+                self.faults = self.faults.saturating_add(1);
+                Err(LoadError::Failed)
+            }
+            Err(LoadError::TooLong) => {
+                self.longs = self.longs.saturating_add(1);
+                Err(LoadError::TooLong)
+            }
+            loaded => loaded,
+        }
+    }
+
+    fn save(&mut self, name: &str, bytes: Vec<u8>) -> Result<(), Failed> {
+        if fs::write(&self.rt, name, bytes.as_slice()).is_err() {
+            self.faults = self.faults.saturating_add(1);
+            return Err(Failed);
+        }
+        Ok(())
+    }
+}
+
+/// The whole file, of at most `limit` bytes.
+fn read_file<R: Files>(
+    rt: &R,
+    alloc: Global,
+    name: &str,
+    limit: u64,
+) -> Result<Vec<u8>, LoadError>
+    ensures within { IfOk result (λ bytes. length bytes.items ≤ limit) }
+{
+    let bytes = read_some(rt, alloc, name, limit.saturating_add(1)).map_err(load_error)?;
+    if bytes.len() as u64 > limit {
+        return Err(LoadError::TooLong);
+    }
+    Ok(bytes)
+}
+
+/// The first `most` bytes of a file, or all of them where there are fewer.
+fn read_some<R: Files>(rt: &R, alloc: Global, name: &str, most: u64) -> io::Result<Vec<u8>> {
+    let mut bytes = Vec::new(alloc);
+    File::open(rt, name)?.take(most).read_to_end(&mut bytes)?;
+    Ok(bytes)
+}
+
+fn load_error(error: io::Error) -> LoadError {
+    match error.kind() {
+        ErrorKind::OutOfMemory => LoadError::Memory,
+        _ => LoadError::Failed,
+    }
+}
