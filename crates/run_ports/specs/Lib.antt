@@ -3,4 +3,6 @@ pub mod Store
 pub mod Output
 pub mod FileList
 pub mod FailPlan
-pub mod Memory
+pub mod MemoryShelf
+pub mod MemorySink
+pub mod SteadyShelf

@@ -1,5 +1,7 @@
-ghost use Rattle.std.specs.Prelude.{◌≡◌, Some};
+ghost use Rattle.std.specs.Prelude.{◌≡◌, ◌≤◌, ◌↔◌, Some, IsSome, IsNone, IsErr, IfOk, OnOk, OnErr, IsErrOf, IsTrue, length};
 ghost use Rattle.std.specs.Option.{option_copied, option_and_then};
+ghost use Rattle.run_ports.specs.Count.{Rose};
+ghost use Rattle.run_ports.specs.Store.{IsLater, IsLoaded, IsTooLong, IsSaved, IsTorn};
 ghost use Rattle.run_ports.specs.FileList.{listed, first_files};
 
 use crate::fail_plan::{Fail, FailPlan};
@@ -21,15 +23,18 @@ pub struct MemoryShelf {
 }
 
 impl MemoryShelf {
+    ghost use Rattle.run_ports.specs.MemoryShelf.{fails_of, counts_of};
+
     /// The files, by name, and the calls that are to fail. Where a call is named twice, its first entry
     /// counts.
     pub fn new(files: Vec<(String, Vec<u8>)>, fails: Vec<Fail>) -> MemoryShelf
-        ensures { ⟦<MemoryShelf as Shelf>⟧.seen result ≡ record {
-          files = Some (first_files (listed files.items));
-          faults = λ _. 0;
-          save_faults = λ _. 0;
-          longs = 0;
-        } }
+        ensures seen { ⟦<MemoryShelf as Shelf>⟧.seen result ≡ record {
+            files = Some (first_files (listed files.items));
+            faults = λ _. 0;
+            save_faults = λ _. 0;
+            longs = 0 } }
+        ensures fails { fails_of result ≡ fails.items }
+        ensures counts { counts_of result ≡ record { calls = 0; faults = 0; longs = 0 } }
     {
         MemoryShelf {
             files,
@@ -49,11 +54,30 @@ impl MemoryShelf {
 }
 
 impl Shelf for MemoryShelf {
-    ghost use Rattle.run_ports.specs.Memory.{memory_store};
+    ghost use Rattle.run_ports.specs.MemoryShelf.{memory_store, files_of, fails_of, counts_of, next_fail, is_refused, counts_loaded, counts_passed, counts_failed, files_kept};
 
     ghost seen = { memory_store };
 
-    fn load(&mut self, alloc: Global, name: &str, limit: u64) -> Result<Vec<u8>, LoadError> {
+    fn load(&mut self, alloc: Global, name: &str, limit: u64) -> Result<Vec<u8>, LoadError>
+        // As of every file store.
+        ensures bytes { IfOk result (λ bytes. IsLoaded (memory_store self.old).files name.now bytes.items) }
+        ensures within { IfOk result (λ bytes. length bytes.items ≤ limit) }
+        ensures failed { IsErrOf result LoadError.Failed →
+            Rose ((memory_store self.old).faults name.now) ((memory_store self.new).faults name.now) }
+        ensures too_long { IsErrOf result LoadError.TooLong →
+            IsTooLong (memory_store self.old).files name.now limit }
+        ensures long_counted { IsErrOf result LoadError.TooLong →
+            Rose (memory_store self.old).longs (memory_store self.new).longs }
+        ensures long_is_no_fault { IsErrOf result LoadError.TooLong →
+            (memory_store self.new).faults name.now ≡ (memory_store self.old).faults name.now }
+        ensures stays { (memory_store self.new).files ≡ (memory_store self.old).files }
+        ensures later { IsLater (memory_store self.old) (memory_store self.new) }
+
+        // Exactly which calls fail, and what is counted.
+        ensures refused { IsErrOf result LoadError.Failed ↔ IsTrue (is_refused self.old name.now) }
+        ensures counts { counts_of self.new ≡ counts_loaded result (counts_of self.old) }
+        ensures fails { fails_of self.new ≡ fails_of self.old }
+    {
         let planned = self.plan.next_call();
         let (Some(bytes), None) = (bytes_of(&self.files, name), planned) else {
             self.faults = self.faults.saturating_add(1);
@@ -63,10 +87,28 @@ impl Shelf for MemoryShelf {
             self.longs = self.longs.saturating_add(1);
             return Err(LoadError::TooLong);
         }
-        Ok(bytes.to_vec(alloc).map_err(|_| LoadError::Memory)?)
+        bytes.to_vec(alloc).map_err(|_| LoadError::Memory)
     }
 
-    fn save(&mut self, name: &str, mut bytes: Vec<u8>) -> Result<(), Failed> {
+    fn save(&mut self, name: &str, mut bytes: Vec<u8>) -> Result<(), Failed>
+        // As of every file store.
+        ensures saved { OnOk result
+            (IsSaved (memory_store self.old).files (memory_store self.new).files name.now bytes.items) }
+        ensures torn { OnErr result
+            (IsTorn (memory_store self.old).files (memory_store self.new).files name.now bytes.items) }
+        ensures failed { OnErr result
+            (Rose ((memory_store self.old).save_faults name.now) ((memory_store self.new).save_faults name.now)) }
+        ensures later { IsLater (memory_store self.old) (memory_store self.new) }
+
+        // Exactly which calls fail, what they leave, and what is counted.
+        ensures refused { IsErr result ↔ IsTrue (is_refused self.old name.now) }
+        ensures unlisted { IsNone (files_of self.old name.now) → files_of self.new ≡ files_of self.old }
+        ensures kept { IsSome (files_of self.old name.now) → OnErr result (files_of self.new ≡
+            files_kept (next_fail self.old) name.now bytes.items (files_of self.old)) }
+        ensures passed { OnOk result (counts_of self.new ≡ counts_passed (counts_of self.old)) }
+        ensures counted { OnErr result (counts_of self.new ≡ counts_failed (counts_of self.old)) }
+        ensures fails { fails_of self.new ≡ fails_of self.old }
+    {
         let planned = self.plan.next_call();
         if !is_listed(&self.files, name) {
             self.faults = self.faults.saturating_add(1);

@@ -1,4 +1,6 @@
-ghost use Rattle.std.specs.Prelude.{◌≡◌, ◌≤◌, [], Some, IfOk, vec_len, vec_capacity};
+ghost use Rattle.std.specs.Prelude.{◌≡◌, ◌≤◌, ◌↔◌, [], Some, IsErr, IfOk, OnOk, OnErr, IsTrue, vec_len, vec_capacity};
+ghost use Rattle.run_ports.specs.Count.{Rose};
+ghost use Rattle.run_ports.specs.Output.{IsLaterOutput, IsAppended, IsPartlyAppended};
 
 use crate::fail_plan::{Fail, FailPlan};
 use crate::output::Sink;
@@ -21,6 +23,8 @@ pub struct MemorySink {
 }
 
 impl MemorySink {
+    ghost use Rattle.run_ports.specs.MemorySink.{fails_of, room_of, counts_of};
+
     /// Room for `room` bytes, and the puts that are to fail. Where a put is named twice, its first entry
     /// counts.
     pub fn new(alloc: Global, room: u32, fails: Vec<Fail>) -> Result<MemorySink, Memory>
@@ -47,11 +51,29 @@ impl MemorySink {
 }
 
 impl Sink for MemorySink {
-    ghost use Rattle.run_ports.specs.Memory.{memory_output};
+    ghost use Rattle.run_ports.specs.MemorySink.{memory_output, fails_of, room_of, counts_of, is_refused, kept_of, counts_passed, counts_failed};
 
     ghost seen = { memory_output };
 
-    fn put(&mut self, bytes: &[u8]) -> Result<(), Failed> {
+    fn put(&mut self, bytes: &[u8]) -> Result<(), Failed>
+        // As of every output.
+        ensures appended { OnOk result (IsAppended
+            (memory_output self.old).written (memory_output self.new).written bytes.now) }
+        ensures partly { OnErr result (IsPartlyAppended
+            (memory_output self.old).written (memory_output self.new).written bytes.now) }
+        ensures failed { OnErr result
+            (Rose (memory_output self.old).faults (memory_output self.new).faults) }
+        ensures later { IsLaterOutput (memory_output self.old) (memory_output self.new) }
+
+        // Exactly which puts fail, what they take, and what is counted.
+        ensures refused { IsErr result ↔ IsTrue (is_refused self.old bytes.now) }
+        ensures kept { OnErr result (IsAppended (memory_output self.old).written
+            (memory_output self.new).written (kept_of self.old bytes.now)) }
+        ensures passed { OnOk result (counts_of self.new ≡ counts_passed (counts_of self.old)) }
+        ensures counted { OnErr result (counts_of self.new ≡ counts_failed (counts_of self.old)) }
+        ensures room { room_of self.new ≡ room_of self.old }
+        ensures fails { fails_of self.new ≡ fails_of self.old }
+    {
         let planned = self.plan.next_call();
         if bytes.len() > self.room - self.written.len() {
             self.faults = self.faults.saturating_add(1);

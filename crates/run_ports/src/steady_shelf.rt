@@ -28,7 +28,7 @@ impl SteadyShelf {
 }
 
 impl Shelf for SteadyShelf {
-    ghost use Rattle.run_ports.specs.Memory.{steady_store};
+    ghost use Rattle.run_ports.specs.SteadyShelf.{steady_store};
 
     ghost seen = { steady_store };
 

@@ -1,0 +1,48 @@
+use Rattle.std.specs.Prelude.{ℕ, ◌+◌, Bool, ◌||◌, List, [], length, take, not, Option, Some, unwrap_or, option_and_then, is_some, nat_le, if◌then◌else◌}
+use Rattle.run_ports.specs.declared.memory_sink.MemorySink.{MemorySink}
+use Rattle.run_ports.specs.declared.fail_plan.Fail.{Fail}
+use Rattle.run_ports.specs.Count.{count_after}
+use Rattle.run_ports.specs.Output.{OutputState}
+use Rattle.run_ports.specs.FailPlan.{planned}
+
+-- it tells what was written
+abbrev pub memory_output : MemorySink → OutputState
+memory_output sink = record { written = Some sink.written.items; faults = sink.faults }
+
+-- the calls that are to fail, and the number of bytes that it has room for
+abbrev pub fails_of : MemorySink → List Fail
+fails_of sink = sink.plan.fails.items
+
+abbrev pub room_of : MemorySink → ℕ
+room_of sink = sink.room
+
+-- how many puts there were, and how many failed
+pub record PutCounts : Type 0 where
+  pub calls : ℕ
+  pub faults : ℕ
+
+abbrev pub counts_of : MemorySink → PutCounts
+counts_of sink = record { calls = sink.plan.calls; faults = sink.faults }
+
+-- the counts after a put that succeeded, and after one that failed
+abbrev pub counts_passed : PutCounts → PutCounts
+counts_passed counts = record counts { calls = count_after counts.calls }
+
+abbrev pub counts_failed : PutCounts → PutCounts
+counts_failed counts = record { calls = count_after counts.calls; faults = count_after counts.faults }
+
+-- whether these bytes fit behind what was written
+abbrev pub is_fitting : MemorySink → List ℕ → Bool
+is_fitting sink bytes = nat_le (length sink.written.items + length bytes) sink.room
+
+-- what is planned for the next put
+abbrev pub next_fail : MemorySink → Option Fail
+next_fail sink = planned (fails_of sink) sink.plan.calls
+
+-- whether a put of these bytes fails now: they don't fit, or the plan says so
+abbrev pub is_refused : MemorySink → List ℕ → Bool
+is_refused sink bytes = not (is_fitting sink bytes) || is_some (next_fail sink)
+
+-- what a failing put takes of the bytes: nothing where they don't fit, and else what the plan keeps
+abbrev pub kept_of : MemorySink → List ℕ → List ℕ
+kept_of sink bytes = if is_fitting sink bytes then take (unwrap_or (option_and_then (λ fail. fail.kept) (next_fail sink)) 0) bytes else []
