@@ -5,9 +5,13 @@ use Rattle.run_ports.specs.Count.{count_after}
 use Rattle.run_ports.specs.Output.{OutputState}
 use Rattle.run_ports.specs.FailPlan.{planned}
 
+-- what was written
+abbrev pub written_of : MemorySink → List ℕ
+written_of sink = sink.written.items
+
 -- it tells what was written
 abbrev pub memory_output : MemorySink → OutputState
-memory_output sink = record { written = Some sink.written.items; faults = sink.faults }
+memory_output sink = record { written = Some (written_of sink); faults = sink.faults }
 
 -- the calls that are to fail, and the number of bytes that it has room for
 abbrev pub fails_of : MemorySink → List Fail
@@ -33,7 +37,7 @@ counts_failed counts = record { calls = count_after counts.calls; faults = count
 
 -- whether these bytes fit behind what was written
 abbrev pub is_fitting : MemorySink → List ℕ → Bool
-is_fitting sink bytes = nat_le (length sink.written.items + length bytes) sink.room
+is_fitting sink bytes = nat_le (length (written_of sink) + length bytes) (room_of sink)
 
 -- what is planned for the next put
 abbrev pub next_fail : MemorySink → Option Fail

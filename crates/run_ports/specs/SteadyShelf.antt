@@ -11,6 +11,10 @@ files_of shelf = first_files (listed shelf.files.items)
 abbrev pub bytes_under : SteadyShelf → List ℕ → List ℕ
 bytes_under shelf name = unwrap_or (files_of shelf name) []
 
+-- how many loads found a file that was too long
+abbrev pub longs_of : SteadyShelf → ℕ
+longs_of shelf = shelf.longs
+
 -- it never fails, and tells nothing
 abbrev pub steady_store : SteadyShelf → StoreState
 steady_store shelf = record { files = None; faults = λ _. 0; save_faults = λ _. 0; longs = shelf.longs }

@@ -1,7 +1,6 @@
-ghost use Rattle.std.specs.Prelude.{◌≡◌, ◌≤◌, ◌↔◌, Some, IsSome, IsNone, IsErr, IfOk, OnOk, OnErr, IsErrOf, IsTrue, length};
+ghost use Rattle.std.specs.Prelude.{◌≡◌, ◌≤◌, ◌<◌, ◌↔◌, Some, IsSome, IsSomeAnd, IsNone, IsErr, IfOk, OnOk, OnErr, IsErrOf, IsTrue, length};
 ghost use Rattle.std.specs.Option.{option_copied, option_and_then};
-ghost use Rattle.run_ports.specs.Count.{Rose};
-ghost use Rattle.run_ports.specs.Store.{IsLater, IsLoaded, IsTooLong, IsSaved, IsTorn};
+ghost use Rattle.run_ports.specs.Store.{IsLater, IsTorn, with_file};
 ghost use Rattle.run_ports.specs.FileList.{listed, first_files};
 
 use crate::fail_plan::{Fail, FailPlan};
@@ -59,23 +58,18 @@ impl Shelf for MemoryShelf {
     ghost seen = { memory_store };
 
     fn load(&mut self, alloc: Global, name: &str, limit: u64) -> Result<Vec<u8>, LoadError>
-        // As of every file store.
-        ensures bytes { IfOk result (λ bytes. IsLoaded (memory_store self.old).files name.now bytes.items) }
+        ensures whole { IfOk result (λ bytes. files_of self.old name.now ≡ Some bytes.items) }
         ensures within { IfOk result (λ bytes. length bytes.items ≤ limit) }
-        ensures failed { IsErrOf result LoadError.Failed →
-            Rose ((memory_store self.old).faults name.now) ((memory_store self.new).faults name.now) }
-        ensures too_long { IsErrOf result LoadError.TooLong →
-            IsTooLong (memory_store self.old).files name.now limit }
-        ensures long_counted { IsErrOf result LoadError.TooLong →
-            Rose (memory_store self.old).longs (memory_store self.new).longs }
-        ensures long_is_no_fault { IsErrOf result LoadError.TooLong →
-            (memory_store self.new).faults name.now ≡ (memory_store self.old).faults name.now }
-        ensures stays { (memory_store self.new).files ≡ (memory_store self.old).files }
-        ensures later { IsLater (memory_store self.old) (memory_store self.new) }
 
-        // Exactly which calls fail, and what is counted.
+        // When each refusal comes.
         ensures refused { IsErrOf result LoadError.Failed ↔ IsTrue (is_refused self.old name.now) }
+        ensures long { IsErrOf result LoadError.TooLong →
+            IsSomeAnd (files_of self.old name.now) (λ bytes. limit < length bytes) }
+
+        // What is counted, and what stays.
         ensures counts { counts_of self.new ≡ counts_loaded result (counts_of self.old) }
+        ensures later { IsLater (memory_store self.old) (memory_store self.new) }
+        ensures stays { files_of self.new ≡ files_of self.old }
         ensures fails { fails_of self.new ≡ fails_of self.old }
     {
         let planned = self.plan.next_call();
@@ -91,22 +85,20 @@ impl Shelf for MemoryShelf {
     }
 
     fn save(&mut self, name: &str, mut bytes: Vec<u8>) -> Result<(), Failed>
-        // As of every file store.
-        ensures saved { OnOk result
-            (IsSaved (memory_store self.old).files (memory_store self.new).files name.now bytes.items) }
-        ensures torn { OnErr result
-            (IsTorn (memory_store self.old).files (memory_store self.new).files name.now bytes.items) }
-        ensures failed { OnErr result
-            (Rose ((memory_store self.old).save_faults name.now) ((memory_store self.new).save_faults name.now)) }
-        ensures later { IsLater (memory_store self.old) (memory_store self.new) }
-
-        // Exactly which calls fail, what they leave, and what is counted.
         ensures refused { IsErr result ↔ IsTrue (is_refused self.old name.now) }
+
+        // What the call leaves.
+        ensures saved { OnOk result (files_of self.new ≡ with_file name.now bytes.items (files_of self.old)) }
         ensures unlisted { IsNone (files_of self.old name.now) → files_of self.new ≡ files_of self.old }
         ensures kept { IsSome (files_of self.old name.now) → OnErr result (files_of self.new ≡
             files_kept (next_fail self.old) name.now bytes.items (files_of self.old)) }
+        ensures torn { OnErr result (IsTorn (memory_store self.old).files
+            (memory_store self.new).files name.now bytes.items) }
+
+        // What is counted.
         ensures passed { OnOk result (counts_of self.new ≡ counts_passed (counts_of self.old)) }
         ensures counted { OnErr result (counts_of self.new ≡ counts_failed (counts_of self.old)) }
+        ensures later { IsLater (memory_store self.old) (memory_store self.new) }
         ensures fails { fails_of self.new ≡ fails_of self.old }
     {
         let planned = self.plan.next_call();

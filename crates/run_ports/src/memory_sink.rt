@@ -1,6 +1,5 @@
-ghost use Rattle.std.specs.Prelude.{◌≡◌, ◌≤◌, ◌↔◌, [], Some, IsErr, IfOk, OnOk, OnErr, IsTrue, vec_len, vec_capacity};
-ghost use Rattle.run_ports.specs.Count.{Rose};
-ghost use Rattle.run_ports.specs.Output.{IsLaterOutput, IsAppended, IsPartlyAppended};
+ghost use Rattle.std.specs.Prelude.{◌≡◌, ◌≤◌, ◌↔◌, [], ◌++◌, Some, IsErr, IfOk, OnOk, OnErr, IsTrue, vec_len, vec_capacity};
+ghost use Rattle.run_ports.specs.Output.{IsLaterOutput, IsPartlyAppended};
 
 use crate::fail_plan::{Fail, FailPlan};
 use crate::output::Sink;
@@ -51,26 +50,24 @@ impl MemorySink {
 }
 
 impl Sink for MemorySink {
-    ghost use Rattle.run_ports.specs.MemorySink.{memory_output, fails_of, room_of, counts_of, is_refused, kept_of, counts_passed, counts_failed};
+    ghost use Rattle.run_ports.specs.MemorySink.{memory_output, written_of, fails_of, room_of, counts_of, is_refused, kept_of, counts_passed, counts_failed};
 
     ghost seen = { memory_output };
 
     fn put(&mut self, bytes: &[u8]) -> Result<(), Failed>
-        // As of every output.
-        ensures appended { OnOk result (IsAppended
-            (memory_output self.old).written (memory_output self.new).written bytes.now) }
+        ensures refused { IsErr result ↔ IsTrue (is_refused self.old bytes.now) }
+
+        // What the call leaves.
+        ensures appended { OnOk result (written_of self.new ≡ written_of self.old ++ bytes.now) }
+        ensures kept { OnErr result
+            (written_of self.new ≡ written_of self.old ++ kept_of self.old bytes.now) }
         ensures partly { OnErr result (IsPartlyAppended
             (memory_output self.old).written (memory_output self.new).written bytes.now) }
-        ensures failed { OnErr result
-            (Rose (memory_output self.old).faults (memory_output self.new).faults) }
-        ensures later { IsLaterOutput (memory_output self.old) (memory_output self.new) }
 
-        // Exactly which puts fail, what they take, and what is counted.
-        ensures refused { IsErr result ↔ IsTrue (is_refused self.old bytes.now) }
-        ensures kept { OnErr result (IsAppended (memory_output self.old).written
-            (memory_output self.new).written (kept_of self.old bytes.now)) }
+        // What is counted, and what stays.
         ensures passed { OnOk result (counts_of self.new ≡ counts_passed (counts_of self.old)) }
         ensures counted { OnErr result (counts_of self.new ≡ counts_failed (counts_of self.old)) }
+        ensures later { IsLaterOutput (memory_output self.old) (memory_output self.new) }
         ensures room { room_of self.new ≡ room_of self.old }
         ensures fails { fails_of self.new ≡ fails_of self.old }
     {
