@@ -1,10 +1,8 @@
-use Rattle.std.specs.Prelude.{ℕ, Bool, ◌||◌, List, take, Option, Some, None, Ok, Err, Result, is_some, is_none}
+use Rattle.std.specs.Prelude.{ℕ, Bool, ◌||◌, List, take, Option, Some, None, is_some, is_none}
 use Rattle.run_ports.specs.declared.memory_shelf.MemoryShelf.{MemoryShelf}
 use Rattle.run_ports.specs.declared.fail_plan.Fail.{Fail}
-use Rattle.run_ports.specs.declared.store.LoadError.{LoadError}
-use Rattle.run_ports.specs.declared.store.LoadError.TheVariants.{Failed, TooLong, Memory}
-use Rattle.run_ports.specs.Count.{count_after}
 use Rattle.run_ports.specs.Store.{StoreState, Files, with_file}
+use Rattle.run_ports.specs.StoreCounts.{StoreCounts}
 use Rattle.run_ports.specs.FileList.{listed, first_files}
 use Rattle.run_ports.specs.FailPlan.{planned}
 
@@ -25,36 +23,20 @@ memory_store shelf = record {
 abbrev pub fails_of : MemoryShelf → List Fail
 fails_of shelf = shelf.plan.fails.items
 
--- how many loads and saves there were, how many failed, and how many found a file that was too long
-pub record CallCounts : Type 0 where
-  pub calls : ℕ
-  pub faults : ℕ
-  pub longs : ℕ
+-- how many loads and saves there were
+abbrev pub calls_of : MemoryShelf → ℕ
+calls_of shelf = shelf.plan.calls
 
-abbrev pub counts_of : MemoryShelf → CallCounts
-counts_of shelf = record { calls = shelf.plan.calls; faults = shelf.faults; longs = shelf.longs }
+abbrev pub counts_of : MemoryShelf → StoreCounts
+counts_of shelf = record { faults = shelf.faults; longs = shelf.longs }
 
 -- what is planned for the next call
 abbrev pub next_fail : MemoryShelf → Option Fail
-next_fail shelf = planned (fails_of shelf) shelf.plan.calls
+next_fail shelf = planned (fails_of shelf) (calls_of shelf)
 
 -- whether the next call fails where it is for this name: there is no such file, or the plan says so
 abbrev pub is_refused : MemoryShelf → List ℕ → Bool
 is_refused shelf name = is_none (files_of shelf name) || is_some (next_fail shelf)
-
--- the counts after a call that succeeded, and after one that failed
-abbrev pub counts_passed : CallCounts → CallCounts
-counts_passed counts = record counts { calls = count_after counts.calls }
-
-abbrev pub counts_failed : CallCounts → CallCounts
-counts_failed counts = record counts { calls = count_after counts.calls; faults = count_after counts.faults }
-
--- the counts after a load with this answer
-abbrev pub counts_loaded : {T : Type 0} → Result T LoadError → CallCounts → CallCounts
-counts_loaded (Err Failed) counts = counts_failed counts
-counts_loaded (Err TooLong) counts = record counts { calls = count_after counts.calls; longs = count_after counts.longs }
-counts_loaded (Err Memory) counts = counts_passed counts
-counts_loaded (Ok _) counts = counts_passed counts
 
 -- the files after a failing save of a file that is there: it holds what the plan keeps of the bytes
 abbrev pub files_kept : Option Fail → List ℕ → List ℕ → Files → Files

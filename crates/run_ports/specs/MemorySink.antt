@@ -1,17 +1,12 @@
 use Rattle.std.specs.Prelude.{ℕ, ◌+◌, Bool, ◌||◌, List, [], length, take, not, Option, Some, unwrap_or, option_and_then, is_some, nat_le, if◌then◌else◌}
 use Rattle.run_ports.specs.declared.memory_sink.MemorySink.{MemorySink}
 use Rattle.run_ports.specs.declared.fail_plan.Fail.{Fail}
-use Rattle.run_ports.specs.Count.{count_after}
 use Rattle.run_ports.specs.Output.{OutputState}
 use Rattle.run_ports.specs.FailPlan.{planned}
 
 -- what was written
 abbrev pub written_of : MemorySink → List ℕ
 written_of sink = sink.written.items
-
--- it tells what was written
-abbrev pub memory_output : MemorySink → OutputState
-memory_output sink = record { written = Some (written_of sink); faults = sink.faults }
 
 -- the calls that are to fail, and the number of bytes that it has room for
 abbrev pub fails_of : MemorySink → List Fail
@@ -20,20 +15,16 @@ fails_of sink = sink.plan.fails.items
 abbrev pub room_of : MemorySink → ℕ
 room_of sink = sink.room
 
--- how many puts there were, and how many failed
-pub record PutCounts : Type 0 where
-  pub calls : ℕ
-  pub faults : ℕ
+-- how many puts there were, and how many of them failed
+abbrev pub calls_of : MemorySink → ℕ
+calls_of sink = sink.plan.calls
 
-abbrev pub counts_of : MemorySink → PutCounts
-counts_of sink = record { calls = sink.plan.calls; faults = sink.faults }
+abbrev pub faults_of : MemorySink → ℕ
+faults_of sink = sink.faults
 
--- the counts after a put that succeeded, and after one that failed
-abbrev pub counts_passed : PutCounts → PutCounts
-counts_passed counts = record counts { calls = count_after counts.calls }
-
-abbrev pub counts_failed : PutCounts → PutCounts
-counts_failed counts = record { calls = count_after counts.calls; faults = count_after counts.faults }
+-- it tells what was written
+abbrev pub memory_output : MemorySink → OutputState
+memory_output sink = record { written = Some (written_of sink); faults = faults_of sink }
 
 -- whether these bytes fit behind what was written
 abbrev pub is_fitting : MemorySink → List ℕ → Bool
@@ -41,7 +32,7 @@ is_fitting sink bytes = nat_le (length (written_of sink) + length bytes) (room_o
 
 -- what is planned for the next put
 abbrev pub next_fail : MemorySink → Option Fail
-next_fail sink = planned (fails_of sink) sink.plan.calls
+next_fail sink = planned (fails_of sink) (calls_of sink)
 
 -- whether a put of these bytes fails now: they don't fit, or the plan says so
 abbrev pub is_refused : MemorySink → List ℕ → Bool

@@ -1,4 +1,6 @@
 ghost use Rattle.std.specs.Prelude.{◌≡◌, ◌≤◌, None, IfOk, length};
+ghost use Rattle.run_ports.specs.Store.{IsLater};
+ghost use Rattle.run_ports.specs.StoreCounts.{counts_loaded, counts_saved};
 
 use crate::store::{Failed, LoadError, Shelf};
 use std::alloc::Global;
@@ -35,15 +37,15 @@ impl<R: Files + Drop> DiskShelf<R> {
 }
 
 impl<R: Files + Drop> Shelf for DiskShelf<R> {
-    ghost use Rattle.std.specs.Prelude.{None};
+    ghost use Rattle.run_ports.specs.DiskShelf.{disk_store, counts_of};
 
-    ghost seen = { λ shelf. record {
-        files = None;
-        faults = λ _. shelf.faults;
-        save_faults = λ _. shelf.faults;
-        longs = shelf.longs } };
+    ghost seen = { disk_store };
 
-    fn load(&mut self, alloc: Global, name: &str, limit: u64) -> Result<Vec<u8>, LoadError> {
+    fn load(&mut self, alloc: Global, name: &str, limit: u64) -> Result<Vec<u8>, LoadError>
+        ensures within { IfOk result (λ bytes. length bytes.items ≤ limit) }
+        ensures counts { counts_of self.new ≡ counts_loaded result (counts_of self.old) }
+        ensures later { IsLater (disk_store self.old) (disk_store self.new) }
+    {
         match read_file(&self.rt, alloc, name, limit) {
             Err(LoadError::Failed) => {
                 self.faults = self.faults.saturating_add(1);
@@ -57,7 +59,10 @@ impl<R: Files + Drop> Shelf for DiskShelf<R> {
         }
     }
 
-    fn save(&mut self, name: &str, bytes: Vec<u8>) -> Result<(), Failed> {
+    fn save(&mut self, name: &str, bytes: Vec<u8>) -> Result<(), Failed>
+        ensures counts { counts_of self.new ≡ counts_saved result (counts_of self.old) }
+        ensures later { IsLater (disk_store self.old) (disk_store self.new) }
+    {
         if fs::write(&self.rt, name, bytes.as_slice()).is_err() {
             self.faults = self.faults.saturating_add(1);
             return Err(Failed);

@@ -1,5 +1,7 @@
 ghost use Rattle.std.specs.Prelude.{◌≡◌, ◌≤◌, ◌<◌, ◌↔◌, Some, IsSome, IsSomeAnd, IsNone, IsErr, IfOk, OnOk, OnErr, IsErrOf, IsTrue, length};
 ghost use Rattle.std.specs.Option.{option_copied, option_and_then};
+ghost use Rattle.run_ports.specs.Count.{count_after};
+ghost use Rattle.run_ports.specs.StoreCounts.{counts_loaded, counts_saved};
 ghost use Rattle.run_ports.specs.Store.{IsLater, IsTorn, with_file};
 ghost use Rattle.run_ports.specs.FileList.{listed, first_files};
 
@@ -22,7 +24,7 @@ pub struct MemoryShelf {
 }
 
 impl MemoryShelf {
-    ghost use Rattle.run_ports.specs.MemoryShelf.{fails_of, counts_of};
+    ghost use Rattle.run_ports.specs.MemoryShelf.{fails_of, calls_of, counts_of};
 
     /// The files, by name, and the calls that are to fail. Where a call is named twice, its first entry
     /// counts.
@@ -33,7 +35,8 @@ impl MemoryShelf {
             save_faults = λ _. 0;
             longs = 0 } }
         ensures fails { fails_of result ≡ fails.items }
-        ensures counts { counts_of result ≡ record { calls = 0; faults = 0; longs = 0 } }
+        ensures calls { calls_of result ≡ 0 }
+        ensures counts { counts_of result ≡ record { faults = 0; longs = 0 } }
     {
         MemoryShelf {
             files,
@@ -53,7 +56,7 @@ impl MemoryShelf {
 }
 
 impl Shelf for MemoryShelf {
-    ghost use Rattle.run_ports.specs.MemoryShelf.{memory_store, files_of, fails_of, counts_of, next_fail, is_refused, counts_loaded, counts_passed, counts_failed, files_kept};
+    ghost use Rattle.run_ports.specs.MemoryShelf.{memory_store, files_of, fails_of, calls_of, counts_of, next_fail, is_refused, files_kept};
 
     ghost seen = { memory_store };
 
@@ -67,6 +70,7 @@ impl Shelf for MemoryShelf {
             IsSomeAnd (files_of self.old name.now) (λ bytes. limit < length bytes) }
 
         // What is counted, and what stays.
+        ensures calls { calls_of self.new ≡ count_after (calls_of self.old) }
         ensures counts { counts_of self.new ≡ counts_loaded result (counts_of self.old) }
         ensures later { IsLater (memory_store self.old) (memory_store self.new) }
         ensures stays { files_of self.new ≡ files_of self.old }
@@ -96,8 +100,8 @@ impl Shelf for MemoryShelf {
             (memory_store self.new).files name.now bytes.items) }
 
         // What is counted.
-        ensures passed { OnOk result (counts_of self.new ≡ counts_passed (counts_of self.old)) }
-        ensures counted { OnErr result (counts_of self.new ≡ counts_failed (counts_of self.old)) }
+        ensures calls { calls_of self.new ≡ count_after (calls_of self.old) }
+        ensures counts { counts_of self.new ≡ counts_saved result (counts_of self.old) }
         ensures later { IsLater (memory_store self.old) (memory_store self.new) }
         ensures fails { fails_of self.new ≡ fails_of self.old }
     {

@@ -1,4 +1,5 @@
 ghost use Rattle.std.specs.Prelude.{◌≡◌, ◌≤◌, ◌↔◌, [], ◌++◌, Some, IsErr, IfOk, OnOk, OnErr, IsTrue, vec_len, vec_capacity};
+ghost use Rattle.run_ports.specs.Count.{count_after};
 ghost use Rattle.run_ports.specs.Output.{IsLaterOutput, IsPartlyAppended};
 
 use crate::fail_plan::{Fail, FailPlan};
@@ -22,7 +23,7 @@ pub struct MemorySink {
 }
 
 impl MemorySink {
-    ghost use Rattle.run_ports.specs.MemorySink.{fails_of, room_of, counts_of};
+    ghost use Rattle.run_ports.specs.MemorySink.{fails_of, room_of, calls_of, faults_of};
 
     /// Room for `room` bytes, and the puts that are to fail. Where a put is named twice, its first entry
     /// counts.
@@ -50,7 +51,7 @@ impl MemorySink {
 }
 
 impl Sink for MemorySink {
-    ghost use Rattle.run_ports.specs.MemorySink.{memory_output, written_of, fails_of, room_of, counts_of, is_refused, kept_of, counts_passed, counts_failed};
+    ghost use Rattle.run_ports.specs.MemorySink.{memory_output, written_of, fails_of, room_of, calls_of, faults_of, is_refused, kept_of};
 
     ghost seen = { memory_output };
 
@@ -65,8 +66,9 @@ impl Sink for MemorySink {
             (memory_output self.old).written (memory_output self.new).written bytes.now) }
 
         // What is counted, and what stays.
-        ensures passed { OnOk result (counts_of self.new ≡ counts_passed (counts_of self.old)) }
-        ensures counted { OnErr result (counts_of self.new ≡ counts_failed (counts_of self.old)) }
+        ensures calls { calls_of self.new ≡ count_after (calls_of self.old) }
+        ensures passed { OnOk result (faults_of self.new ≡ faults_of self.old) }
+        ensures counted { OnErr result (faults_of self.new ≡ count_after (faults_of self.old)) }
         ensures later { IsLaterOutput (memory_output self.old) (memory_output self.new) }
         ensures room { room_of self.new ≡ room_of self.old }
         ensures fails { fails_of self.new ≡ fails_of self.old }

@@ -1,4 +1,6 @@
-ghost use Rattle.std.specs.Prelude.{◌≡◌, None};
+ghost use Rattle.std.specs.Prelude.{◌≡◌, None, OnOk, OnErr};
+ghost use Rattle.run_ports.specs.Count.{count_after};
+ghost use Rattle.run_ports.specs.Output.{IsLaterOutput};
 
 use crate::output::Sink;
 use crate::store::Failed;
@@ -21,11 +23,15 @@ impl<R: Print + Drop> TermSink<R> {
 }
 
 impl<R: Print + Drop> Sink for TermSink<R> {
-    ghost use Rattle.std.specs.Prelude.{None};
+    ghost use Rattle.run_ports.specs.TermSink.{terminal_output, faults_of};
 
-    ghost seen = { λ sink. record { written = None; faults = sink.faults } };
+    ghost seen = { terminal_output };
 
-    fn put(&mut self, bytes: &[u8]) -> Result<(), Failed> {
+    fn put(&mut self, bytes: &[u8]) -> Result<(), Failed>
+        ensures passed { OnOk result (faults_of self.new ≡ faults_of self.old) }
+        ensures counted { OnErr result (faults_of self.new ≡ count_after (faults_of self.old)) }
+        ensures later { IsLaterOutput (terminal_output self.old) (terminal_output self.new) }
+    {
         if write_out(&self.rt, bytes).is_err() {
             self.faults = self.faults.saturating_add(1);
             return Err(Failed);
