@@ -6,4 +6,4 @@ count_after n = min (n + 1) (2 ^ 64 - 1)
 
 -- a count that was `before` rose, or stands at its last value
 abbrev pub Rose : ℕ → ℕ → Type 0
-Rose before now = min (before + 1) (2 ^ 64 - 1) ≤ now
+Rose before now = count_after before ≤ now

@@ -23,10 +23,11 @@ pub struct DiskShelf<R> {
 impl<R: Files + Drop> DiskShelf<R> {
     pub fn new(rt: R) -> DiskShelf<R>
         ensures { ⟦<DiskShelf<R> as Shelf>⟧.seen result ≡ record {
-            files = None;
-            faults = λ _. 0;
-            save_faults = λ _. 0;
-            longs = 0 } }
+          files = None;
+          faults = λ _. 0;
+          save_faults = λ _. 0;
+          longs = 0;
+        } }
     {
         DiskShelf {
             rt,
@@ -72,12 +73,7 @@ impl<R: Files + Drop> Shelf for DiskShelf<R> {
 }
 
 /// The whole file, of at most `limit` bytes.
-fn read_file<R: Files>(
-    rt: &R,
-    alloc: Global,
-    name: &str,
-    limit: u64,
-) -> Result<Vec<u8>, LoadError>
+fn read_file<R: Files>(rt: &R, alloc: Global, name: &str, limit: u64) -> Result<Vec<u8>, LoadError>
     ensures within { IfOk result (λ bytes. length bytes.items ≤ limit) }
 {
     let bytes = read_some(rt, alloc, name, limit.saturating_add(1)).map_err(load_error)?;
@@ -98,5 +94,50 @@ fn load_error(error: io::Error) -> LoadError {
     match error.kind() {
         ErrorKind::OutOfMemory => LoadError::Memory,
         _ => LoadError::Failed,
+    }
+}
+
+#[cfg(test)]
+mod tests {
+    use super::*;
+    use std::rt::Env;
+    use std::test::Fail;
+    use std::{env, process};
+
+    #[test]
+    fn disk_shelf_keeps_files(rt: HostRuntime) -> Result<(), Fail> {
+        let alloc = rt.alloc();
+        let temp = env::temp_dir(&rt)?;
+        let folder = format!(in alloc;
+            "{}/run_ports_{}",
+            temp.display(),
+            process::id(rt.process())
+        )?;
+        fs::create_dir(&rt, folder.as_str())?;
+        let name = format!(in alloc; "{folder}/file")?;
+        let nowhere = format!(in alloc; "{folder}/none/file")?;
+        let bytes: Vec<u8> = (0..10_000u32).map(|i| (i % 251) as u8).collect(alloc)?;
+
+        let mut shelf = DiskShelf::new(&rt);
+        let saved = shelf.save(name.as_str(), bytes.clone()?);
+        let loaded = shelf.load(alloc, name.as_str(), 10_000);
+        let long = shelf.load(alloc, name.as_str(), 9_999);
+        let endless = shelf.load(alloc, "/dev/zero", 100);
+        let counted = (shelf.faults, shelf.longs);
+        let missing = shelf.load(alloc, nowhere.as_str(), 100);
+        let unsaved = shelf.save(nowhere.as_str(), bytes.clone()?);
+        let unnamed = shelf.load(alloc, "", 100);
+        fs::remove_dir_all(&rt, folder.as_str())?;
+
+        assert!(rt; saved.is_ok());
+        assert!(rt; loaded == Ok(bytes));
+        assert!(rt; long == Err(LoadError::TooLong));
+        assert!(rt; endless == Err(LoadError::TooLong));
+        assert!(rt; missing == Err(LoadError::Failed));
+        assert!(rt; unnamed == Err(LoadError::Failed));
+        assert!(rt; unsaved.is_err());
+        assert_eq!(rt; counted, (0, 2));
+        assert_eq!(rt; (shelf.faults, shelf.longs), (3, 2));
+        Ok(())
     }
 }

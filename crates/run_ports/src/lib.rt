@@ -4,17 +4,19 @@
 //! have left, and that a failure was counted.
 #![tactic(auto)]
 
+mod disk_shelf;
 mod fail_plan;
 mod file_list;
 mod jobs;
 mod memory_shelf;
 mod memory_sink;
 mod null_sink;
-mod disk_shelf;
-mod term_sink;
 mod output;
 mod steady_shelf;
 mod store;
+mod term_sink;
+#[cfg(test)]
+mod tests;
 
 pub use disk_shelf::DiskShelf;
 pub use fail_plan::Fail;

@@ -30,10 +30,11 @@ impl MemoryShelf {
     /// counts.
     pub fn new(files: Vec<(String, Vec<u8>)>, fails: Vec<Fail>) -> MemoryShelf
         ensures seen { ⟦<MemoryShelf as Shelf>⟧.seen result ≡ record {
-            files = Some (first_files (listed files.items));
-            faults = λ _. 0;
-            save_faults = λ _. 0;
-            longs = 0 } }
+          files = Some (first_files (listed files.items));
+          faults = λ _. 0;
+          save_faults = λ _. 0;
+          longs = 0;
+        } }
         ensures fails { fails_of result ≡ fails.items }
         ensures calls { calls_of result ≡ 0 }
         ensures counts { counts_of result ≡ record { faults = 0; longs = 0 } }

@@ -1,4 +1,4 @@
-ghost use Rattle.std.specs.Prelude.{◌≡◌, None};
+ghost use Rattle.std.specs.Prelude.{◌≡◌, None, IsOk};
 
 use crate::output::Sink;
 use crate::store::Failed;
@@ -20,7 +20,9 @@ impl Sink for NullSink {
 
     ghost seen = { λ _. record { written = None; faults = 0 } };
 
-    fn put(&mut self, _bytes: &[u8]) -> Result<(), Failed> {
+    fn put(&mut self, _bytes: &[u8]) -> Result<(), Failed>
+        ensures { IsOk result }
+    {
         Ok(())
     }
 }

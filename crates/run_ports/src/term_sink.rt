@@ -46,3 +46,39 @@ fn write_out(rt: &impl Print, bytes: &[u8]) -> io::Result<()> {
     out.write_all(bytes)?;
     out.flush()
 }
+
+#[cfg(test)]
+mod tests {
+    use super::*;
+    use std::fmt::Display;
+    use std::io::{Error, ErrorKind};
+
+    /// An output that takes nothing.
+    #[derive(Drop)]
+    struct Full;
+
+    impl Print for Full {
+        fn print<D: Display + Drop>(&self, _value: D) -> io::Result<()> {
+            Err(Error::from(ErrorKind::StorageFull))
+        }
+
+        fn println<D: Display + Drop>(&self, _value: D) -> io::Result<()> {
+            Err(Error::from(ErrorKind::StorageFull))
+        }
+
+        fn write_all(&self, _bytes: &[u8]) -> io::Result<()> {
+            Err(Error::from(ErrorKind::StorageFull))
+        }
+    }
+
+    #[test]
+    fn term_sink_counts_what_fails(rt: HostRuntime) {
+        let text = b"0 anna 2 ok\n1 anna 3 ok\n2 anna 4 changed 1\ndone 3\n";
+        let mut sink = TermSink::new(&rt);
+        assert!(rt; sink.put(text).is_ok());
+        assert_eq!(rt; sink.faults, 0);
+        let mut full = TermSink::new(Full);
+        assert!(rt; full.put(text).is_err());
+        assert_eq!(rt; full.faults, 1);
+    }
+}
