@@ -16,7 +16,7 @@ turns_of-entry order k d within =
     let player = get_or order k d in
     let front = count_by_more_yes (λ p. eqb p player) order k d within (eq-eqb player player refl) in
     let parts : count_by (λ p. eqb p player) order ≡ count_by (λ p. eqb p player) (take (k + 1) order) + count_by (λ p. eqb p player) (drop (k + 1) order) =
-        ap (count_by (λ p. eqb p player)) (sym (take-append-drop (k + 1) order)) ∙ sum_by-append (λ (p : ℕ). cond (eqb p player) 1 0) (take (k + 1) order) (drop (k + 1) order) in
+    ap (count_by (λ p. eqb p player)) (sym (take-append-drop (k + 1) order)) ∙ sum_by-append (λ (p : ℕ). cond (eqb p player) 1 0) (take (k + 1) order) (drop (k + 1) order) in
     omega (arith, front, parts)
 
 -- a player that isn't there has no commands
@@ -29,8 +29,8 @@ players_of_whole scripts order whole = λ k d within.
     elim (cases_lt (get_or order k d) (length scripts)) [
       | inl lt ↦ lt
       | inr past ↦
-        let none : length (lines_of scripts (get_or order k d)) ≡ 0 = ap length (lines_of-past scripts (get_or order k d) past) in
-        omega (arith, whole (get_or order k d), none, turns_of-entry order k d within)
+          let none : length (lines_of scripts (get_or order k d)) ≡ 0 = ap length (lines_of-past scripts (get_or order k d) past) in
+          omega (arith, whole (get_or order k d), none, turns_of-entry order k d within)
     ]
 
 pub legal_from_whole : (scripts : List Script) (order : List ℕ) → IsWholeOrder scripts order → IsLegalOrder scripts order

@@ -1,3 +1,4 @@
+pub mod Workload
 pub mod Session
 pub mod Order
 pub mod Effect

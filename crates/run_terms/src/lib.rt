@@ -11,5 +11,4 @@ ghost use Rattle.run_terms.specs.Order.{IsLegalOrder, IsWholeOrder};
 /// A whole order is legal.
 pub fn whole_orders_are_legal()
     ensures { (scripts : List Script) (order : List ℕ) → IsWholeOrder scripts order → IsLegalOrder scripts order }
-{
-}
+{}
