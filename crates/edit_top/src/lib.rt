@@ -1,13 +1,11 @@
-// A library with one function.
+//! The program's top call.
+//!
+//! `run` reads a world's file and a player's script, runs the script, saves the world and prints each
+//! command's reply. Its contract is the end-to-end theorem: what it saves and prints is what a plain fold
+//! of the commands in one order gives, and each other ending comes with its cause.
 #![tactic(auto)]
 
-ghost use Rattle.std.specs.Prelude.{◌≡◌};
-ghost use Rattle.edit_top.specs.Echo.{echo_of};
+mod canvas;
+mod session;
 
-// The `ensures` clause is the contract: what `echo` returns is `echo_of` of its argument, a definition
-// in `specs/Echo.antt`, which a caller's clause can cite too.
-pub fn echo(x: usize) -> usize
-    ensures { result ≡ echo_of x }
-{
-    x
-}
+pub use memory::Memory;

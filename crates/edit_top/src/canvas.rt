@@ -1,0 +1,94 @@
+//! The world while a script runs: a grid's states by number and each position's number.
+
+ghost use Rattle.std.specs.Prelude.{◌≡◌, ◌≤◌, ◌<◌, ◌&&◌, true, false, not, List, ℕ, length, map, get_or, count_by, IfOk, All};
+ghost use Rattle.std.specs.List.{range_with_len};
+ghost use Rattle.edit_terms.specs.declared.region.Kind.TheVariants.{Cuboid};
+ghost use Rattle.edit_terms.specs.Area.{volume, position_of};
+ghost use Rattle.edit_terms.specs.Region.{is_between, is_in_shape, is_selected};
+ghost use Rattle.edit_terms.specs.Same.{same_state};
+ghost use Rattle.edit_top.specs.Canvas.{painted, is_changed};
+
+use edit_terms::{BlockState, Pos, Selection, WorldBox};
+use memory::Memory;
+use std::alloc::Global;
+
+/// Puts this number at each position of the selection.
+pub(crate) fn paint(area: &WorldBox, selection: &Selection, number: u32, cells: &mut [u32])
+    requires shape { selection.now.kind ≡ Cuboid }
+    requires whole { length cells.old ≡ volume area.now }
+    ensures { (k : ℕ) → k < length cells.old → get_or cells.new k 0 ≡ painted area.now selection.now number cells.old k }
+{
+    for (index, cell) in cells.iter_mut().enumerate() {
+        if is_selected_at(area, selection, index as u32) {
+            *cell = number;
+        }
+    }
+}
+
+/// How many positions of the selection have a state that differs from the new one: `differs` says so by
+/// the state's number.
+pub(crate) fn count_changed(
+    area: &WorldBox,
+    selection: &Selection,
+    cells: &[u32],
+    differs: &[bool],
+) -> u32
+    requires shape { selection.now.kind ≡ Cuboid }
+    requires whole { length cells.now ≡ volume area.now }
+    requires numbered { All (λ n. n < length differs.now) cells.now }
+    ensures { result ≡ count_by (is_changed area.now selection.now cells.now differs.now) (range_with_len 0 (volume area.now)) }
+{
+    let mut count = 0;
+    for (index, cell) in cells.iter().enumerate() {
+        if differs[*cell as usize] && is_selected_at(area, selection, index as u32) {
+            count += 1;
+        }
+    }
+    count
+}
+
+/// Which states differ from this one.
+pub(crate) fn differing(
+    alloc: Global,
+    kinds: &[BlockState],
+    state: &BlockState,
+) -> Result<Vec<bool>, Memory>
+    ensures { IfOk result (λ differs. differs.items ≡ map (λ kind. not (same_state kind state.now)) kinds.now) }
+{
+    Ok(kinds.iter().map(|kind| *kind != *state).collect(alloc)?)
+}
+
+fn is_selected_at(area: &WorldBox, selection: &Selection, index: u32) -> bool
+    requires shape { selection.now.kind ≡ Cuboid }
+    requires within { index < volume area.now }
+    ensures { result ≡ is_selected selection.now (position_of area.now index) }
+{
+    match area.position(index) {
+        None => false,
+        Some(p) => is_in_cuboid(&selection.first, &selection.second, &p),
+    }
+}
+
+fn is_in_cuboid(first: &Pos, second: &Pos, p: &Pos) -> bool
+    ensures { result ≡ is_in_shape Cuboid first.now second.now p.now }
+{
+    is_between_x(first, second, p) && is_between_y(first, second, p) && is_between_z(first, second, p)
+}
+
+fn is_between_x(first: &Pos, second: &Pos, p: &Pos) -> bool
+    ensures { result ≡ is_between first.now.x second.now.x p.now.x }
+{
+    (first.x <= p.x && p.x <= second.x) || (second.x <= p.x && p.x <= first.x)
+}
+
+fn is_between_y(first: &Pos, second: &Pos, p: &Pos) -> bool
+    ensures { result ≡ is_between first.now.y second.now.y p.now.y }
+{
+    (first.y <= p.y && p.y <= second.y) || (second.y <= p.y && p.y <= first.y)
+}
+
+fn is_between_z(first: &Pos, second: &Pos, p: &Pos) -> bool
+    ensures { result ≡ is_between first.now.z second.now.z p.now.z }
+{
+    (first.z <= p.z && p.z <= second.z) || (second.z <= p.z && p.z <= first.z)
+}

@@ -1,0 +1,5 @@
+pub mod Tags
+pub mod Text
+pub mod Varint
+pub mod Schematic
+pub mod Read
