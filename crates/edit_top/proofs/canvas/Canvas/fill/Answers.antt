@@ -20,6 +20,6 @@ returns c =
     let paints : IsPainted area c.args.selection.now (length kinds) cells c.paint.new.cells = record { long = long; each = subst (λ (n : ℕ). (k : ℕ) → k < length cells → get_or c.paint.new.cells k 0 ≡ painted area c.args.selection.now n cells k) number each } in
     let table : c.in_ok-differs.differs.items ≡ map (λ kind. not (same_state kind state)) kinds = c.in_ok-differs.ensures ∙ ap (map (λ kind. not (same_state kind state))) c.deref.ensures.value in
     let filled = painted_is_filled area kinds cells c.paint.new.cells c.args.selection.now state (numbered_parts area kinds cells c.requires.numbered) paints c.in_ok-differs.differs.items c.count_changed-changed.result table (rw (c.deref-2.ensures.value, c.deref-3.ensures.value) at c.count_changed-changed.ensures.count) in
-    let shown : (with_items c.args.self.now.cells c.paint.new.cells).items ≡ c.paint.new.cells = with_items_is c.args.self.now.cells c.paint.new.cells (long ∙ c.args.self.now.cells.ok.0) in
+    let shown : (with_items c.args.self.now.cells c.paint.new.cells).items ≡ c.paint.new.cells = with_items_is c.args.self.now.cells c.paint.new.cells (long ∙ sym c.args.self.now.cells.ok.0) in
     let by_kinds = subst (λ (ks : List State). IsFilled (bare_grid area kinds cells) (bare_grid area ks c.paint.new.cells) c.args.selection.now state c.count_changed-changed.result) (sym pushed) filled in
     subst (λ (ns : List ℕ). IsFilled (bare_grid area kinds cells) (bare_grid area c.push.new.self.items ns) c.args.selection.now state c.count_changed-changed.result) (sym shown) by_kinds
