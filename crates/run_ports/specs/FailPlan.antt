@@ -1,4 +1,4 @@
-use Rattle.std.specs.Prelude.{ℕ, ◌+◌, ◌-◌, ◌^◌, min, ◌==◌, Option, List}
+use Rattle.std.specs.Prelude.{ℕ, ◌==◌, Option, List}
 use Rattle.std.specs.List.{find}
 use Rattle.run_ports.specs.declared.fail_plan.Fail.{Fail}
 

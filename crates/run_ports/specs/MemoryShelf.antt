@@ -2,22 +2,13 @@ use Rattle.std.specs.Prelude.{ℕ, Bool, ◌||◌, List, take, Option, Some, Non
 use Rattle.run_ports.specs.declared.memory_shelf.MemoryShelf.{MemoryShelf}
 use Rattle.run_ports.specs.declared.fail_plan.Fail.{Fail}
 use Rattle.run_ports.specs.Store.{StoreState, Files, with_file}
-use Rattle.run_ports.specs.StoreCounts.{StoreCounts}
+use Rattle.run_ports.specs.StoreCounts.{StoreCounts, store_state}
 use Rattle.run_ports.specs.FileList.{listed, first_files}
 use Rattle.run_ports.specs.FailPlan.{planned}
 
 -- its files: the first entry of each name
 abbrev pub files_of : MemoryShelf → Files
 files_of shelf = first_files (listed shelf.files.items)
-
--- it tells its files, and has one count of failures for all names, for loads and for saves
-abbrev pub memory_store : MemoryShelf → StoreState
-memory_store shelf = record {
-  files = Some (files_of shelf);
-  faults = λ _. shelf.faults;
-  save_faults = λ _. shelf.faults;
-  longs = shelf.longs;
-}
 
 -- the calls that are to fail
 abbrev pub fails_of : MemoryShelf → List Fail
@@ -27,8 +18,13 @@ fails_of shelf = shelf.plan.fails.items
 abbrev pub calls_of : MemoryShelf → ℕ
 calls_of shelf = shelf.plan.calls
 
+-- what was counted so far
 abbrev pub counts_of : MemoryShelf → StoreCounts
 counts_of shelf = record { faults = shelf.faults; longs = shelf.longs }
+
+-- callers know its files
+abbrev pub memory_store : MemoryShelf → StoreState
+memory_store shelf = store_state (Some (files_of shelf)) (counts_of shelf)
 
 -- what is planned for the next call
 abbrev pub next_fail : MemoryShelf → Option Fail

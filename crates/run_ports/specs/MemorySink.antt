@@ -8,21 +8,23 @@ use Rattle.run_ports.specs.FailPlan.{planned}
 abbrev pub written_of : MemorySink → List ℕ
 written_of sink = sink.written.items
 
--- the calls that are to fail, and the number of bytes that it has room for
+-- the puts that are to fail
 abbrev pub fails_of : MemorySink → List Fail
 fails_of sink = sink.plan.fails.items
 
+-- how many bytes it has room for in all
 abbrev pub room_of : MemorySink → ℕ
 room_of sink = sink.room
 
--- how many puts there were, and how many of them failed
+-- how many puts there were
 abbrev pub calls_of : MemorySink → ℕ
 calls_of sink = sink.plan.calls
 
+-- how many of them failed
 abbrev pub faults_of : MemorySink → ℕ
 faults_of sink = sink.faults
 
--- it tells what was written
+-- callers know what was written
 abbrev pub memory_output : MemorySink → OutputState
 memory_output sink = record { written = Some (written_of sink); faults = faults_of sink }
 

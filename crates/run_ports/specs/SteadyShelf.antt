@@ -1,6 +1,7 @@
 use Rattle.std.specs.Prelude.{ℕ, List, [], None, unwrap_or}
 use Rattle.run_ports.specs.declared.steady_shelf.SteadyShelf.{SteadyShelf}
 use Rattle.run_ports.specs.Store.{StoreState, Files}
+use Rattle.run_ports.specs.StoreCounts.{store_state}
 use Rattle.run_ports.specs.FileList.{listed, first_files}
 
 -- its files: the first entry of each name
@@ -15,6 +16,6 @@ bytes_under shelf name = unwrap_or (files_of shelf name) []
 abbrev pub longs_of : SteadyShelf → ℕ
 longs_of shelf = shelf.longs
 
--- it never fails, and tells nothing
+-- callers don't know its files, and it never counts a failure
 abbrev pub steady_store : SteadyShelf → StoreState
-steady_store shelf = record { files = None; faults = λ _. 0; save_faults = λ _. 0; longs = shelf.longs }
+steady_store shelf = store_state None (record { faults = 0; longs = longs_of shelf })

@@ -1,4 +1,4 @@
-use Rattle.std.specs.Prelude.{◌≡◌, ℕ, ◌≤◌, ◌<◌, List, length, take, Option, Some, None, IfSome, IsSomeAnd, ◌⊎◌, if◌then◌else◌}
+use Rattle.std.specs.Prelude.{◌≡◌, ℕ, ◌≤◌, ◌<◌, List, length, take, Option, Some, IfSome, IsSomeAnd, ◌⊎◌, if◌then◌else◌}
 use Rattle.std.specs.Option.{option_map}
 use Rattle.std.specs.Str.{bytes_eq}
 
@@ -10,9 +10,9 @@ Files = List ℕ → Option (List ℕ)
 abbrev pub with_file : List ℕ → List ℕ → Files → Files
 with_file name bytes files = λ other. if bytes_eq name other then Some bytes else files other
 
--- what a file store shows
+-- what a contract sees of a file store
 pub record StoreState : Type 0 where
-  -- its files, where it tells them
+  -- its files, or None where what it holds isn't known
   pub files : Option Files
   -- how many loads of a name failed
   pub faults : List ℕ → ℕ
@@ -27,23 +27,23 @@ pub record IsLater (before now : StoreState) : Type 0 where
   pub save_faults : (name : List ℕ) → before.save_faults name ≤ now.save_faults name
   pub longs : before.longs ≤ now.longs
 
--- where the files are told, the file of this name holds these bytes
+-- where the files are known, the file of this name holds these bytes
 abbrev pub IsLoaded : Option Files → List ℕ → List ℕ → Type 0
-IsLoaded told name bytes = IfSome told (λ files. files name ≡ Some bytes)
+IsLoaded known name bytes = IfSome known (λ files. files name ≡ Some bytes)
 
--- where the files are told, there is a file of this name, and it is longer than the limit
+-- where the files are known, there is a file of this name, and it is longer than the limit
 abbrev pub IsTooLong : Option Files → List ℕ → ℕ → Type 0
-IsTooLong told name limit = IfSome told (λ files. IsSomeAnd (files name) (λ bytes. limit < length bytes))
+IsTooLong known name limit = IfSome known (λ files. IsSomeAnd (files name) (λ bytes. limit < length bytes))
 
--- where the files are told, the file of this name holds these bytes now, and the other names are as they were
+-- where the files are known, the file of this name holds these bytes now, and the other names are as they were
 abbrev pub IsSaved : Option Files → Option Files → List ℕ → List ℕ → Type 0
 IsSaved before after name bytes = after ≡ option_map (with_file name bytes) before
 
--- the file of this name holds only the first `kept` of the bytes
+-- the file of this name holds only the first `kept` of the bytes, or all where there are fewer
 pub record IsPartlySaved (before after : Option Files) (name bytes : List ℕ) : Type 0 where
   pub kept : ℕ
   pub saved : IsSaved before after name (take kept bytes)
 
--- a save that failed: the files are as before, or a part of the bytes was saved
+-- what a save that failed can leave: the files as before, or a prefix of the bytes under this name
 abbrev pub IsTorn : Option Files → Option Files → List ℕ → List ℕ → Type 0
 IsTorn before after name bytes = (after ≡ before) ⊎ IsPartlySaved before after name bytes

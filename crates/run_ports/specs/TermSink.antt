@@ -7,6 +7,6 @@ module _ {R : Type 0} where
   abbrev pub faults_of : TermSink R → ℕ
   faults_of sink = sink.faults
 
-  -- it tells nothing of what was written
+  -- what the terminal shows isn't known
   abbrev pub terminal_output : TermSink R → OutputState
-  terminal_output sink = record { written = None; faults = sink.faults }
+  terminal_output sink = record { written = None; faults = faults_of sink }

@@ -1,6 +1,6 @@
 ghost use Rattle.std.specs.Prelude.{◌≡◌, ◌≤◌, None, IfOk, length};
 ghost use Rattle.run_ports.specs.Store.{IsLater};
-ghost use Rattle.run_ports.specs.StoreCounts.{counts_loaded, counts_saved};
+ghost use Rattle.run_ports.specs.StoreCounts.{no_counts, store_state, counts_loaded, counts_saved};
 
 use crate::store::{Failed, LoadError, Shelf};
 use std::alloc::Global;
@@ -9,7 +9,10 @@ use std::io::{ErrorKind, Read};
 use std::rt::Files;
 use std::{fs, io};
 
-/// The files of the system, by their paths. It tells nothing of what they hold.
+/// The files of the system, by their paths. What they hold isn't known to contracts.
+///
+/// One count of failures serves all names, loads and saves. A path that can't be opened, as an empty one
+/// or one in a folder that isn't there, fails.
 ///
 /// A load reads at most one byte more than its limit, so a device without an end takes no more memory
 /// than a file that is too long.
@@ -21,13 +24,9 @@ pub struct DiskShelf<R> {
 }
 
 impl<R: Files + Drop> DiskShelf<R> {
+    /// Over the system's files, as the runtime gives them.
     pub fn new(rt: R) -> DiskShelf<R>
-        ensures { ⟦<DiskShelf<R> as Shelf>⟧.seen result ≡ record {
-          files = None;
-          faults = λ _. 0;
-          save_faults = λ _. 0;
-          longs = 0;
-        } }
+        ensures { ⟦<DiskShelf<R> as Shelf>⟧.seen result ≡ store_state None no_counts }
     {
         DiskShelf {
             rt,
@@ -90,6 +89,7 @@ fn read_some<R: Files>(rt: &R, alloc: Global, name: &str, most: u64) -> io::Resu
     Ok(bytes)
 }
 
+/// What an error of the system is for a load.
 fn load_error(error: io::Error) -> LoadError {
     match error.kind() {
         ErrorKind::OutOfMemory => LoadError::Memory,

@@ -1,4 +1,5 @@
-ghost use Rattle.std.specs.Prelude.{◌≡◌, ◌+◌, ◌-◌, ◌^◌, min, take, unwrap_or};
+ghost use Rattle.std.specs.Prelude.{◌≡◌, take, unwrap_or};
+ghost use Rattle.run_ports.specs.Count.{count_after};
 ghost use Rattle.run_ports.specs.FailPlan.{planned};
 
 /// A call that is to fail.
@@ -40,7 +41,7 @@ impl FailPlan {
     pub(crate) fn next_call(&mut self) -> Option<Fail>
         ensures planned { result ≡ planned self.old.fails.items self.old.calls }
         ensures fails { self.new.fails.items ≡ self.old.fails.items }
-        ensures calls { self.new.calls ≡ min (self.old.calls + 1) (2 ^ 64 - 1) }
+        ensures calls { self.new.calls ≡ count_after self.old.calls }
     {
         let fail = planned_fail(&self.fails, self.calls);
         self.calls = self.calls.saturating_add(1);

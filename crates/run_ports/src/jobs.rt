@@ -4,7 +4,7 @@ pub trait Gate {
     fn before(&self, worker: u32, ticket: u32, chunk: u32);
 }
 
-/// A gate that lets each job pass at once.
+/// A hook that does nothing.
 #[derive(Clone, Copy, Debug, Default)]
 pub struct OpenGate;
 

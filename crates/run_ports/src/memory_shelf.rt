@@ -1,7 +1,7 @@
 ghost use Rattle.std.specs.Prelude.{◌≡◌, ◌≤◌, ◌<◌, ◌↔◌, Some, IsSome, IsSomeAnd, IsNone, IsErr, IfOk, OnOk, OnErr, IsErrOf, IsTrue, length};
 ghost use Rattle.std.specs.Option.{option_copied, option_and_then};
 ghost use Rattle.run_ports.specs.Count.{count_after};
-ghost use Rattle.run_ports.specs.StoreCounts.{counts_loaded, counts_saved};
+ghost use Rattle.run_ports.specs.StoreCounts.{no_counts, store_state, counts_loaded, counts_saved};
 ghost use Rattle.run_ports.specs.Store.{IsLater, IsTorn, with_file};
 ghost use Rattle.run_ports.specs.FileList.{listed, first_files};
 
@@ -10,11 +10,11 @@ use crate::file_list::{bytes_of, is_listed, replace};
 use crate::store::{Failed, LoadError, Shelf};
 use std::alloc::Global;
 
-/// A file store in memory, which tells its files.
+/// A file store in memory, whose files contracts know.
 ///
 /// The first entry of a name in its list is the file, and later ones play no role. A load or save of a
 /// name that isn't in the list fails. Loads and saves are counted together, as calls from 0, and its
-/// plan says which of these calls fail. One count of failures serves all names, for loads and saves.
+/// plan says which of these calls fail. One count of failures serves all names, loads and saves.
 #[derive(Drop)]
 pub struct MemoryShelf {
     files: Vec<(String, Vec<u8>)>,
@@ -24,20 +24,15 @@ pub struct MemoryShelf {
 }
 
 impl MemoryShelf {
-    ghost use Rattle.run_ports.specs.MemoryShelf.{fails_of, calls_of, counts_of};
+    ghost use Rattle.run_ports.specs.MemoryShelf.{fails_of, calls_of};
 
     /// The files, by name, and the calls that are to fail. Where a call is named twice, its first entry
     /// counts.
     pub fn new(files: Vec<(String, Vec<u8>)>, fails: Vec<Fail>) -> MemoryShelf
-        ensures seen { ⟦<MemoryShelf as Shelf>⟧.seen result ≡ record {
-          files = Some (first_files (listed files.items));
-          faults = λ _. 0;
-          save_faults = λ _. 0;
-          longs = 0;
-        } }
+        ensures seen { ⟦<MemoryShelf as Shelf>⟧.seen result ≡
+            store_state (Some (first_files (listed files.items))) no_counts }
         ensures fails { fails_of result ≡ fails.items }
         ensures calls { calls_of result ≡ 0 }
-        ensures counts { counts_of result ≡ record { faults = 0; longs = 0 } }
     {
         MemoryShelf {
             files,
@@ -89,7 +84,7 @@ impl Shelf for MemoryShelf {
         bytes.to_vec(alloc).map_err(|_| LoadError::Memory)
     }
 
-    fn save(&mut self, name: &str, mut bytes: Vec<u8>) -> Result<(), Failed>
+    fn save(&mut self, name: &str, bytes: Vec<u8>) -> Result<(), Failed>
         ensures refused { IsErr result ↔ IsTrue (is_refused self.old name.now) }
 
         // What the call leaves.
@@ -117,8 +112,9 @@ impl Shelf for MemoryShelf {
         };
         self.faults = self.faults.saturating_add(1);
         if let Some(kept) = fail.kept {
-            bytes.truncate(kept as usize);
-            replace(&mut self.files, name, bytes);
+            let mut part = bytes;
+            part.truncate(kept as usize);
+            replace(&mut self.files, name, part);
         }
         Err(Failed)
     }

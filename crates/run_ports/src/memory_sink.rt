@@ -8,10 +8,10 @@ use crate::store::Failed;
 use memory::Memory;
 use std::alloc::Global;
 
-/// An output in memory, which tells what was written.
+/// An output in memory, of which contracts know what was written.
 ///
-/// It has room for a number of bytes. A put that doesn't fit fails and takes nothing, and so do those
-/// that its plan names, of which each takes as many bytes as the plan says. Puts are counted from 0.
+/// It has room for a number of bytes. A put that doesn't fit fails and takes nothing. Puts are counted
+/// from 0, and its plan says which of them fail, and how many bytes each of these takes.
 #[derive(Drop)]
 pub struct MemorySink {
     written: Vec<u8>,
@@ -23,15 +23,18 @@ pub struct MemorySink {
 }
 
 impl MemorySink {
-    ghost use Rattle.run_ports.specs.MemorySink.{fails_of, room_of, calls_of, faults_of};
+    ghost use Rattle.run_ports.specs.MemorySink.{fails_of, room_of, calls_of};
 
     /// Room for `room` bytes, and the puts that are to fail. Where a put is named twice, its first entry
     /// counts.
     pub fn new(alloc: Global, room: u32, fails: Vec<Fail>) -> Result<MemorySink, Memory>
-        ensures { IfOk result (λ sink. ⟦<MemorySink as Sink>⟧.seen sink ≡ record {
+        ensures seen { IfOk result (λ sink. ⟦<MemorySink as Sink>⟧.seen sink ≡ record {
           written = Some [];
           faults = 0;
         }) }
+        ensures room { IfOk result (λ sink. room_of sink ≡ room) }
+        ensures fails { IfOk result (λ sink. fails_of sink ≡ fails.items) }
+        ensures calls { IfOk result (λ sink. calls_of sink ≡ 0) }
     {
         let room = room as usize;
         Ok(MemorySink {

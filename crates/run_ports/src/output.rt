@@ -6,7 +6,7 @@ use crate::store::Failed;
 
 /// An output of bytes. It counts its failures; the count stays at its last value once it is there.
 pub trait Sink {
-    /// What was written, where it tells that, and its count.
+    /// What was written, where that is known, and its count.
     ghost seen: { Self → OutputState };
 
     /// Appends all of the bytes.

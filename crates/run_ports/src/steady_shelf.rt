@@ -1,13 +1,14 @@
 ghost use Rattle.std.specs.Prelude.{◌≡◌, ◌≢◌, ◌≤◌, ◌<◌, None, Err, IsSome, IsNone, IsOk, IfOk, IsErrOf, length};
 ghost use Rattle.run_ports.specs.Count.{count_after};
 ghost use Rattle.run_ports.specs.Store.{IsLater, with_file};
+ghost use Rattle.run_ports.specs.StoreCounts.{no_counts, store_state};
 ghost use Rattle.run_ports.specs.FileList.{listed, first_files};
 
 use crate::file_list::{bytes_of, replace};
 use crate::store::{Failed, LoadError, Shelf};
 use std::alloc::Global;
 
-/// A file store in memory that never fails, and tells nothing of its files.
+/// A file store in memory that never fails, and whose files callers don't know.
 ///
 /// The first entry of a name in its list is the file. A name that isn't in the list loads as an empty
 /// file, and a save to it is dropped.
@@ -20,14 +21,10 @@ pub struct SteadyShelf {
 impl SteadyShelf {
     ghost use Rattle.run_ports.specs.SteadyShelf.{files_of};
 
+    /// The files, by name.
     pub fn new(files: Vec<(String, Vec<u8>)>) -> SteadyShelf
         ensures files { files_of result ≡ first_files (listed files.items) }
-        ensures seen { ⟦<SteadyShelf as Shelf>⟧.seen result ≡ record {
-          files = None;
-          faults = λ _. 0;
-          save_faults = λ _. 0;
-          longs = 0;
-        } }
+        ensures seen { ⟦<SteadyShelf as Shelf>⟧.seen result ≡ store_state None no_counts }
     {
         SteadyShelf { files, longs: 0 }
     }

@@ -21,11 +21,11 @@ pub enum LoadError {
 
 /// A store of files under names.
 ///
-/// It counts its failures by name, those of loads and those of saves apart, and the files that were
-/// too long. A store may use one counter for several names, or for both kinds of calls. A count
-/// stays at its last value once it is there.
+/// It counts its failures by name, those of loads and those of saves apart, and the loads of files that
+/// were too long. One counter may serve several names, or both kinds of calls. A count stays at its last
+/// value once it is there.
 pub trait Shelf {
-    /// Its files, where it tells them, and its counts.
+    /// Its files, where they are known, and its counts.
     ghost seen: { Self → StoreState };
 
     /// The whole file of this name, of at most `limit` bytes.

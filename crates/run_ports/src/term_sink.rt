@@ -7,7 +7,7 @@ use crate::store::Failed;
 use std::io;
 use std::io::Write;
 
-/// The standard output. It tells nothing of what was written.
+/// The standard output. What was written isn't known to contracts.
 #[derive(Drop)]
 pub struct TermSink<R> {
     rt: R,
@@ -15,6 +15,7 @@ pub struct TermSink<R> {
 }
 
 impl<R: Print + Drop> TermSink<R> {
+    /// Over the standard output, as the runtime gives it.
     pub fn new(rt: R) -> TermSink<R>
         ensures { ⟦<TermSink<R> as Sink>⟧.seen result ≡ record { written = None; faults = 0 } }
     {
@@ -50,35 +51,48 @@ fn write_out(rt: &impl Print, bytes: &[u8]) -> io::Result<()> {
 #[cfg(test)]
 mod tests {
     use super::*;
+    use std::cell::Cell;
     use std::fmt::Display;
     use std::io::{Error, ErrorKind};
 
-    /// An output that takes nothing.
+    /// An output of bounded length that knows how much it took.
     #[derive(Drop)]
-    struct Full;
+    struct Tape {
+        len: Cell<usize>,
+        end: usize,
+    }
 
-    impl Print for Full {
+    impl Print for Tape {
         fn print<D: Display + Drop>(&self, _value: D) -> io::Result<()> {
-            Err(Error::from(ErrorKind::StorageFull))
+            Err(Error::from(ErrorKind::Unsupported))
         }
 
         fn println<D: Display + Drop>(&self, _value: D) -> io::Result<()> {
-            Err(Error::from(ErrorKind::StorageFull))
+            Err(Error::from(ErrorKind::Unsupported))
         }
 
-        fn write_all(&self, _bytes: &[u8]) -> io::Result<()> {
-            Err(Error::from(ErrorKind::StorageFull))
+        fn write_all(&self, bytes: &[u8]) -> io::Result<()> {
+            let len = self.len.get().saturating_add(bytes.len());
+            if len > self.end {
+                return Err(Error::from(ErrorKind::StorageFull));
+            }
+            self.len.set(len);
+            Ok(())
         }
     }
 
     #[test]
-    fn term_sink_counts_what_fails(rt: HostRuntime) {
+    fn term_sink_writes_all_and_counts_what_fails(rt: HostRuntime) {
         let text = b"0 anna 2 ok\n1 anna 3 ok\n2 anna 4 changed 1\ndone 3\n";
-        let mut sink = TermSink::new(&rt);
+        assert!(rt; TermSink::new(&rt).put(text).is_ok());
+        let tape = Tape {
+            len: Cell::new(0),
+            end: 60,
+        };
+        let mut sink = TermSink::new(&tape);
         assert!(rt; sink.put(text).is_ok());
-        assert_eq!(rt; sink.faults, 0);
-        let mut full = TermSink::new(Full);
-        assert!(rt; full.put(text).is_err());
-        assert_eq!(rt; full.faults, 1);
+        assert_eq!(rt; (tape.len.get(), sink.faults), (50, 0));
+        assert!(rt; sink.put(text).is_err());
+        assert_eq!(rt; (tape.len.get(), sink.faults), (50, 1));
     }
 }
