@@ -1,2 +1,4 @@
 pub mod Ranges
 pub mod Filling
+pub mod Answering
+pub mod Running

@@ -6,6 +6,7 @@
 #![tactic(auto)]
 
 mod canvas;
+mod fold;
 mod session;
 
 pub use memory::Memory;
