@@ -7,6 +7,7 @@
 
 mod canvas;
 mod fold;
+mod run_text;
 mod session;
 
 pub use memory::Memory;
