@@ -4,7 +4,9 @@
 //! and any other bytes are refused. So far it reads plain scripts, of `//pos1`, `//pos2` and `//set`.
 #![tactic(auto)]
 
+mod cuts;
 mod fault;
+mod number;
 mod script;
 
 pub use fault::ScriptFault;
