@@ -1,2 +1,3 @@
 pub mod Separators
 pub mod Digits
+pub mod Words

@@ -22,9 +22,17 @@ number_of (b ∷ bytes) = if b == 45 then option_map (λ n. neg_ℤ (pos n)) (na
 abbrev pub is_between : ℤ → ℤ → ℤ → Bool
 is_between low high n = int_le low n && int_le n high
 
--- x and z are -33,554,432 to 33,554,431, and y is -2,048 to 2,047
+-- an x or a z is -33,554,432 to 33,554,431
+abbrev pub is_across : ℤ → Bool
+is_across n = is_between (negsuc 33554431) (pos 33554431) n
+
+-- a y is -2,048 to 2,047
+abbrev pub is_height : ℤ → Bool
+is_height n = is_between (negsuc 2047) (pos 2047) n
+
+-- the position is within the limits
 abbrev pub is_on_map : Pos → Bool
-is_on_map p = is_between (negsuc 33554431) (pos 33554431) p.x && is_between (negsuc 2047) (pos 2047) p.y && is_between (negsuc 33554431) (pos 33554431) p.z
+is_on_map p = is_across p.x && is_height p.y && is_across p.z
 
 -- the position of three numbers, where they are within the limits
 abbrev pub position_at : Option ℤ → Option ℤ → Option ℤ → Option Pos

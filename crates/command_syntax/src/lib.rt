@@ -7,6 +7,7 @@
 mod cuts;
 mod fault;
 mod number;
+mod position;
 mod script;
 
 pub use fault::ScriptFault;

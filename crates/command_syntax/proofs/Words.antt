@@ -1,0 +1,18 @@
+-- Words and positions by the number of their parts.
+use Rattle.std.proofs.Common.{◌≡◌, ◌≢◌, ℕ, List, [], ◌∷◌, length, None, refl}
+use Rattle.command_syntax.specs.Text.{parts}
+use Rattle.command_syntax.specs.Number.{number_of, position_at, position_from, position_of}
+
+-- a position has three parts
+pub position_of_three : (word x y z : List ℕ) → parts 44 word ≡ x ∷ y ∷ z ∷ [] → position_of word ≡ position_at (number_of x) (number_of y) (number_of z)
+position_of_three word x y z cut = rw cut
+
+position_from_others : (cut : List (List ℕ)) → length cut ≢ 3 → position_from cut ≡ None
+position_from_others [] _ = refl
+position_from_others (_ ∷ []) _ = refl
+position_from_others (_ ∷ _ ∷ []) _ = refl
+position_from_others (_ ∷ _ ∷ _ ∷ []) other = absurd (other refl)
+position_from_others (_ ∷ _ ∷ _ ∷ _ ∷ _) _ = refl
+
+pub position_of_others : (word : List ℕ) → length (parts 44 word) ≢ 3 → position_of word ≡ None
+position_of_others word other = position_from_others (parts 44 word) other
