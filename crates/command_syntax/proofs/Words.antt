@@ -1,7 +1,8 @@
 -- Words and positions by the number of their parts.
-use Rattle.std.proofs.Common.{◌≡◌, ◌≢◌, ℕ, List, [], ◌∷◌, length, None, refl}
+use Rattle.std.proofs.Common.{◌≡◌, ◌≢◌, ℕ, List, [], ◌∷◌, length, None, refl, ap}
 use Rattle.command_syntax.specs.Text.{parts}
 use Rattle.command_syntax.specs.Number.{number_of, position_at, position_from, position_of}
+use Rattle.command_syntax.specs.Command.{command_from, command_of}
 
 -- a position has three parts
 pub position_of_three : (word x y z : List ℕ) → parts 44 word ≡ x ∷ y ∷ z ∷ [] → position_of word ≡ position_at (number_of x) (number_of y) (number_of z)
@@ -16,3 +17,16 @@ position_from_others (_ ∷ _ ∷ _ ∷ _ ∷ _) _ = refl
 
 pub position_of_others : (word : List ℕ) → length (parts 44 word) ≢ 3 → position_of word ≡ None
 position_of_others word other = position_from_others (parts 44 word) other
+
+-- a command has two words
+pub command_of_two : (line verb argument : List ℕ) → parts 32 line ≡ verb ∷ argument ∷ [] → command_of line ≡ command_from (verb ∷ argument ∷ [])
+command_of_two line verb argument cut = ap command_from cut
+
+command_from_others : (words : List (List ℕ)) → length words ≢ 2 → command_from words ≡ None
+command_from_others [] _ = refl
+command_from_others (_ ∷ []) _ = refl
+command_from_others (_ ∷ _ ∷ []) other = absurd (other refl)
+command_from_others (_ ∷ _ ∷ _ ∷ _) _ = refl
+
+pub command_of_others : (line : List ℕ) → length (parts 32 line) ≢ 2 → command_of line ≡ None
+command_of_others line other = command_from_others (parts 32 line) other

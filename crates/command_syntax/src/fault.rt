@@ -1,3 +1,6 @@
+ghost use Rattle.std.specs.Prelude.{◌≡◌};
+
+use memory::Memory;
 use thiserror::Error;
 
 /// Why a script isn't read.
@@ -9,4 +12,14 @@ pub enum ScriptFault {
     /// An allocation was refused.
     #[error("out of memory")]
     Memory,
+}
+
+impl From<Memory> for ScriptFault {
+    ghost use Rattle.command_syntax.specs.declared.fault.ScriptFault.TheVariants as variants;
+
+    ghost from_gives = { λ _ fault. fault ≡ variants.Memory };
+
+    fn from(_error: Memory) -> ScriptFault {
+        ScriptFault::Memory
+    }
 }

@@ -6,6 +6,8 @@
 
 mod cuts;
 mod fault;
+mod block;
+mod command;
 mod number;
 mod position;
 mod script;
