@@ -1,3 +1,5 @@
 pub mod Separators
 pub mod Digits
 pub mod Words
+pub mod Reading
+pub mod Faults

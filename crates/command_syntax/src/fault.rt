@@ -1,6 +1,7 @@
 ghost use Rattle.std.specs.Prelude.{◌≡◌};
 
 use memory::Memory;
+use std::alloc::{AllocError, AllocFailed};
 use thiserror::Error;
 
 /// Why a script isn't read.
@@ -20,6 +21,27 @@ impl From<Memory> for ScriptFault {
     ghost from_gives = { λ _ fault. fault ≡ variants.Memory };
 
     fn from(_error: Memory) -> ScriptFault {
+        ScriptFault::Memory
+    }
+}
+
+impl From<AllocError> for ScriptFault {
+    ghost use Rattle.command_syntax.specs.declared.fault.ScriptFault.TheVariants as variants;
+
+    ghost from_gives = { λ _ fault. fault ≡ variants.Memory };
+
+    fn from(_error: AllocError) -> ScriptFault {
+        ScriptFault::Memory
+    }
+}
+
+/// The value that found no room is dropped.
+impl<T: Drop> From<AllocFailed<T>> for ScriptFault {
+    ghost use Rattle.command_syntax.specs.declared.fault.ScriptFault.TheVariants as variants;
+
+    ghost from_gives = { λ _ fault. fault ≡ variants.Memory };
+
+    fn from(_error: AllocFailed<T>) -> ScriptFault {
         ScriptFault::Memory
     }
 }

@@ -9,6 +9,7 @@ mod fault;
 mod block;
 mod command;
 mod number;
+mod player;
 mod position;
 mod script;
 
