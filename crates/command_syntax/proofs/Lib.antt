@@ -3,3 +3,4 @@ pub mod Digits
 pub mod Words
 pub mod Reading
 pub mod Faults
+pub mod PlainScripts

@@ -14,6 +14,7 @@ use std::alloc::Global;
 
 /// Reads a plain script: lines that each end with a line feed, the first `player NAME`, each later one
 /// `//pos1 X,Y,Z`, `//pos2 X,Y,Z` or `//set STATE`.
+
 pub fn read_script(alloc: Global, bytes: &[u8]) -> Result<Script, ScriptFault>
     requires { length bytes.now ≤ 1048576 }
     ensures read { IsRead (script_of bytes.now) result }
