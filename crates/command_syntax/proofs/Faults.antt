@@ -1,5 +1,5 @@
 -- How a refusal is passed on.
-use Rattle.std.specs.Prelude.{◌≡◌, Option, None, Result, Ok, Err}
+use Rattle.std.specs.Prelude.{◌≡◌, Option, None, Err}
 use Rattle.command_syntax.specs.declared.fault.ScriptFault.{ScriptFault}
 use Rattle.command_syntax.specs.declared.fault.ScriptFault.TheVariants.{Unbuilt, Memory}
 use Rattle.command_syntax.specs.Read.{IsRead}

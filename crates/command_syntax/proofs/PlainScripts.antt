@@ -1,23 +1,22 @@
 -- What is read is plain. Each lemma follows one definition: whatever it gives, if it gives anything, is
 -- plain.
-use Rattle.std.proofs.Common.{◌≡◌, ℕ, ◌+◌, ◌≤◌, Bool, true, false, List, [], ◌∷◌, map, length, Option, Some, None, option_map, refl, ap, arith, add-one}
+use Rattle.std.proofs.Common.{◌≡◌, ℕ, ◌+◌, ◌≤◌, Bool, true, false, List, [], ◌∷◌, map, length, Option, Some, None, option_map, refl, arith}
 use Rattle.std.specs.Prelude.{ℤ, if◌then◌else◌, All, IfSome, ◌&&◌, codes, bytes_eq, nat_le, Result, Ok, Err, IfOk}
 use Rattle.std.specs.Option.{option_and_then}
 use Rattle.std.specs.List.{enumerate_from}
 use Rattle.std.proofs.lemmas.Bool.{leb-true}
-use Rattle.std.proofs.lemmas.Bool.Decides.{nat_tests}
 use Rattle.std.proofs.lemmas.Option.{IfSome_then, MatchOption-at_some}
 use Rattle.std.proofs.lemmas.List.Elements.{All-nil, All-cons}
-use Rattle.edit_terms.specs.StateText.{State, is_block_name, with_namespace}
+use Rattle.edit_terms.specs.StateText.{is_block_name, with_namespace}
 use Rattle.edit_terms.specs.declared.script.Command.{Command}
 use Rattle.edit_terms.specs.declared.script.Command.TheVariants.{Pos1, Pos2, Set}
 use Rattle.edit_terms.specs.declared.script.Line.{Line}
 use Rattle.edit_terms.specs.declared.script.Script.{Script}
 use Rattle.command_syntax.specs.declared.fault.ScriptFault.{ScriptFault}
-use Rattle.command_syntax.specs.Text.{parts, words_of, lines_of, all_of}
+use Rattle.command_syntax.specs.Text.{parts, words_of, all_of}
 use Rattle.command_syntax.specs.Number.{number_of, is_on_map, position_at, position_from, position_of}
 use Rattle.command_syntax.specs.Command.{only, state_of, command_from, command_of, is_player_name, player_from, player_of}
-use Rattle.command_syntax.specs.Script.{numbered, commands_of, script_from, script_of}
+use Rattle.command_syntax.specs.Script.{numbered, commands_of, script_from}
 use Rattle.command_syntax.specs.Read.{IsRead}
 use Rattle.command_syntax.specs.Plain.{IsPlainPattern, IsPlainCommand, IsPlainScript}
 

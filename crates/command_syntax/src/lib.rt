@@ -4,10 +4,10 @@
 //! and any other bytes are refused. So far it reads plain scripts, of `//pos1`, `//pos2` and `//set`.
 #![tactic(auto)]
 
-mod cuts;
-mod fault;
 mod block;
 mod command;
+mod cuts;
+mod fault;
 mod number;
 mod player;
 mod position;
@@ -16,3 +16,6 @@ mod script;
 pub use fault::ScriptFault;
 pub use memory::Memory;
 pub use script::read_script;
+
+#[cfg(test)]
+mod tests;

@@ -1,8 +1,6 @@
-use Rattle.std.proofs.Common.{◌≡◌, ◌+◌, ◌-◌, ◌≤◌, List, ℕ, length, take, drop, arith, ◌∙◌, sym, ap, ◌∷◌}
+use Rattle.std.proofs.Common.{◌≡◌, ◌+◌, ◌-◌, length, take, drop, arith, sym}
 use Rattle.std.proofs.Math.Seq.{take-length}
 use Rattle.std.proofs.lemmas.List.{length-drop}
-use Rattle.std.proofs.lemmas.Grind.{common_steps}
-use Rattle.command_syntax.specs.Text.{parts}
 use Rattle.command_syntax.proofs.Separators.{parts_cut, parts_some}
 use Rattle.command_syntax.proofs.cuts.split_once.Goals as goal
 

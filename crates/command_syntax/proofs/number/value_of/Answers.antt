@@ -1,5 +1,4 @@
-use Rattle.std.proofs.Common.{◌≡◌, ◌+◌, ◌<◌, ◌≤◌, ◌*◌, ◌^◌, length, take, get_or, arith}
-use Rattle.std.specs.Str.Parse.{digits_value}
+use Rattle.std.proofs.Common.{◌+◌, arith}
 use Rattle.command_syntax.proofs.Digits.{value_below, value_more}
 use Rattle.command_syntax.proofs.number.value_of.Goals as goal
 

@@ -1,12 +1,11 @@
-use Rattle.std.proofs.Common.{◌≡◌, ◌+◌, ◌<◌, map, drop, length, get_or, [], Bor, List, ℕ, None, ◌∙◌, sym, arith}
+use Rattle.std.proofs.Common.{◌<◌, map, length, Bor, List, ℕ, ◌∙◌, sym}
 use Rattle.std.specs.List.{enumerate_from}
 use Rattle.std.proofs.lemmas.List.{length-map}
 use Rattle.std.proofs.lemmas.Result.{err_from_is_err_and}
 use Rattle.command_syntax.specs.Text.{all_of}
-use Rattle.command_syntax.specs.Command.{command_of}
 use Rattle.command_syntax.specs.Script.{numbered}
 use Rattle.command_syntax.proofs.Faults.{fault_passed}
-use Rattle.command_syntax.proofs.Reading.{joined, joined_none, joined_more, joined_fault, text_at}
+use Rattle.command_syntax.proofs.Reading.{joined_none, joined_more, joined_fault, text_at}
 use Rattle.command_syntax.proofs.script.numbered.Goals as goal
 
 pub returns-in_err-command : goal.returns-in_err-command
