@@ -30,7 +30,9 @@ use Rattle.run_terms.specs.Effect.{content_of, filled, effect_at, world_with, wo
 use Rattle.run_terms.specs.Fold.{changes_between}
 use Rattle.run_terms.specs.Reply.{reply_to}
 use Rattle.edit_top.specs.Canvas.{world_filled, IsFilled, IsNumbered}
-use Rattle.edit_top.specs.Plain.{only, IsFixed, IsAnswered, AreBare}
+use Rattle.command_syntax.specs.Command.{only}
+use Rattle.command_syntax.specs.Plain.{IsPlainPattern}
+use Rattle.edit_top.specs.Plain.{IsAnswered, AreBare}
 use Rattle.edit_top.proofs.Ranges.{map-range_agrees}
 
 -- a fill by a fixed state puts it everywhere in the region, for every seed and ticket
@@ -47,7 +49,7 @@ pub bare_more : (kinds : List State) (state : State) → state.properties ≡ []
 bare_more kinds state bare each = All-push (λ (s : State). s.properties ≡ []) kinds state each bare
 
 -- what a filled canvas answers to a set with a selection
-pub set_is_answered : (s : Session) (old new : GridParts) (pattern : Pattern) (selection : Selection) (fixed : IsFixed pattern) (changed : ℕ)
+pub set_is_answered : (s : Session) (old new : GridParts) (pattern : Pattern) (selection : Selection) (fixed : IsPlainPattern pattern) (changed : ℕ)
     → selection_of s ≡ Some selection → IsFilled old new selection fixed.state changed → IsAnswered s s old new (Set pattern) (Changed changed)
 set_is_answered s old new pattern selection fixed changed selected fills =
     let step : resolved_command s (Set pattern) ≡ job_of (Fill (Selected selection) pattern) = ap (λ (o : Option Selection). option_map_or (λ sel. job_of (Fill (Selected sel) pattern)) o (refused_step NoSelection)) selected in
@@ -61,7 +63,7 @@ set_is_answered s old new pattern selection fixed changed selected fills =
     }
 
 -- the state of the one entry is the fixed one
-pub same_fixed : (pattern : Pattern) (fixed : IsFixed pattern) (state : State) → pattern.entries ≡ record { weight = 1; value = Fixed state } ∷ [] → fixed.state ≡ state
+pub same_fixed : (pattern : Pattern) (fixed : IsPlainPattern pattern) (state : State) → pattern.entries ≡ record { weight = 1; value = Fixed state } ∷ [] → fixed.state ≡ state
 same_fixed pattern fixed state e =
     let entries : (only fixed.state).entries ≡ (only state).entries = ap (λ (p : Pattern). p.entries) (sym fixed.only_entry) ∙ e in
     state_in (ap first_value entries)

@@ -1,11 +1,7 @@
 -- What the private fold takes and does, a command at a time.
 use Rattle.std.specs.Prelude.{◌≡◌, ℕ, zero, suc, List, [], ◌∷◌, length, map, All}
 use Rattle.std.specs.List.{range_with_len}
-use Rattle.edit_terms.specs.declared.pattern.Value.TheVariants.{Fixed}
-use Rattle.edit_terms.specs.declared.pattern.Entry.{Entry}
-use Rattle.edit_terms.specs.declared.pattern.Pattern.{Pattern}
 use Rattle.edit_terms.specs.declared.script.Command.{Command}
-use Rattle.edit_terms.specs.declared.script.Command.TheVariants.{Pos1, Pos2, Set}
 use Rattle.edit_terms.specs.declared.script.Line.{Line}
 use Rattle.edit_terms.specs.declared.script.Script.{Script}
 use Rattle.edit_terms.specs.declared.script.Case.{Case}
@@ -17,22 +13,8 @@ use Rattle.run_terms.specs.Session.{Session, resolved_command, after_command, st
 use Rattle.run_terms.specs.Effect.{world_after_step}
 use Rattle.run_terms.specs.Fold.{changes_between}
 use Rattle.run_terms.specs.Reply.{reply_to}
+use Rattle.command_syntax.specs.Plain.{IsPlainScript}
 use Rattle.edit_top.specs.Canvas.{IsNumbered}
-
--- the pattern that puts this state everywhere
-abbrev pub only : State → Pattern
-only state = record { entries = record { weight = 1; value = Fixed state } ∷ [] }
-
--- the pattern is one fixed state without properties
-pub record IsFixed (pattern : Pattern) : Type 0 where
-  pub state : State
-  pub only_entry : pattern ≡ only state
-  pub no_properties : state.properties ≡ []
-
-abbrev pub IsPlainCommand : Command → Type 0
-IsPlainCommand (Set pattern) = IsFixed pattern
-IsPlainCommand (Pos1 at) = Unit {0}
-IsPlainCommand (Pos2 at) = Unit {0}
 
 -- no state has properties
 abbrev pub AreBare : List State → Type 0
@@ -42,7 +24,7 @@ AreBare states = All (λ state. state.properties ≡ []) states
 pub record IsPlainCase (case : Case) : Type 0 where
   pub script : Script
   pub only_script : case.scripts ≡ script ∷ []
-  pub commands : All (λ line. IsPlainCommand line.command) script.lines
+  pub plain : IsPlainScript script
   pub entities : case.opening.entities ≡ []
   pub kinds : AreBare case.opening.kinds
 

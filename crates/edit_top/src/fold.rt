@@ -5,7 +5,8 @@ ghost use Rattle.edit_terms.specs.declared.pattern.Value.TheVariants.{Fixed};
 ghost use Rattle.run_terms.specs.Reply.{IsOutcome};
 ghost use Rattle.run_terms.specs.Workload.{workload_of};
 ghost use Rattle.edit_top.specs.Canvas.{grid_of, session_of, IsNumbered};
-ghost use Rattle.edit_top.specs.Plain.{IsPlainCase, IsPlainCommand, IsFixed, IsAnswered, HasRun, AreBare};
+ghost use Rattle.command_syntax.specs.Plain.{IsPlainCommand, IsPlainPattern};
+ghost use Rattle.edit_top.specs.Plain.{IsPlainCase, IsAnswered, HasRun, AreBare};
 
 use crate::canvas::Canvas;
 use crate::session::Session;
@@ -77,7 +78,7 @@ fn set(
     canvas: &mut Canvas,
     pattern: &Pattern,
 ) -> Result<Reply, Memory>
-    requires fixed { IsFixed pattern.now }
+    requires fixed { IsPlainPattern pattern.now }
     requires numbered { IsNumbered (grid_of canvas.old) }
     ensures { IfOk result (IsAnswered (session_of session.now) (session_of session.now) (grid_of canvas.old) (grid_of canvas.new) (Command.Set pattern.now)) }
 {
@@ -90,7 +91,7 @@ fn set(
 
 /// The state of a pattern that is one fixed state.
 fn fixed_state(pattern: &Pattern) -> &BlockState
-    requires { IsFixed pattern.now }
+    requires { IsPlainPattern pattern.now }
     ensures { pattern.now.entries ≡ record { weight = 1; value = Fixed result.now } ∷ [] }
 {
     let Value::Fixed(state) = &pattern.entries.as_slice()[0].value;

@@ -7,7 +7,12 @@
 
 mod canvas;
 mod fold;
+mod loading;
+mod outputs;
 mod run_text;
 mod session;
+mod status;
+mod words;
 
 pub use memory::Memory;
+pub use status::Status;
