@@ -3,3 +3,5 @@ pub mod Filling
 pub mod Answering
 pub mod Running
 pub mod Printing
+pub mod Messages
+pub mod Saving

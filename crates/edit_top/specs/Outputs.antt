@@ -1,5 +1,5 @@
 -- The files that a run saves, one after the other.
-use Rattle.std.specs.Prelude.{◌≡◌, ℕ, ◌<◌, List, length, take, slice_get, Option, Some, fold, map}
+use Rattle.std.specs.Prelude.{◌≡◌, ℕ, List, ◌∷◌, ◌++◌, Option, fold}
 use Rattle.std.specs.Option.{option_map}
 use Rattle.run_ports.specs.Count.{Rose}
 use Rattle.run_ports.specs.Store.{Files, StoreState, with_file, IsTorn}
@@ -19,10 +19,11 @@ AreSaved before after outputs = after ≡ option_map (with_files outputs) before
 
 -- the saves stopped: those before were saved, and of this one a prefix at most
 pub record StopsSaving (before after : StoreState) (outputs : List (List ℕ × List ℕ)) : Type 0 where
-  pub count : ℕ
+  pub front : List (List ℕ × List ℕ)
   pub output : List ℕ × List ℕ
-  pub there : slice_get outputs count ≡ Some output
+  pub rest : List (List ℕ × List ℕ)
+  pub parts : outputs ≡ front ++ output ∷ rest
   pub between : Option Files
-  pub saved : AreSaved before.files between (take count outputs)
+  pub saved : AreSaved before.files between front
   pub torn : IsTorn between after.files output.0 output.1
   pub rose : Rose (before.save_faults output.0) (after.save_faults output.0)

@@ -12,6 +12,7 @@ mod outputs;
 mod run_text;
 mod session;
 mod status;
+mod telling;
 mod words;
 
 pub use memory::Memory;
