@@ -5,3 +5,4 @@ pub mod Running
 pub mod Printing
 pub mod Messages
 pub mod Saving
+pub mod Endings

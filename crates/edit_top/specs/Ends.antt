@@ -92,3 +92,34 @@ Ends words before after shown told (TooLong file) = IsStopped words before after
 Ends words before after shown told (WorldRefused fault) = IsStopped words before after shown told (WorldRefused fault)
 Ends words before after shown told (ScriptRefused script fault) = IsStopped words before after shown told (ScriptRefused script fault)
 Ends words before after shown told OutOfMemory = IsStopped words before after shown told OutOfMemory
+
+-- Nothing outside failed: no count of failures rose, of loads of the world and the script, of saves of OUT, and of the
+-- output.
+pub record NothingFailed (before after : StoreState) (shown told : OutputState) : Type 0 where
+  pub loads : (name : List ℕ) → ¬ Rose (before.faults name) (after.faults name)
+  pub saves : (name : List ℕ) → ¬ Rose (before.save_faults name) (after.save_faults name)
+  pub puts : ¬ Rose shown.faults told.faults
+
+-- an ending that no outside failure caused
+abbrev pub IsNoFailure : Status → Type 0
+IsNoFailure (ReadFault file) = ⊥
+IsNoFailure SaveFault = ⊥
+IsNoFailure PrintFault = ⊥
+IsNoFailure _ = Unit {0}
+
+-- Good words over told files that hold a plain world and a plain script, each within its limit.
+pub record IsGood (words : List (List ℕ)) (told : Option Files) : Type 0 where
+  pub files : Files
+  pub tells : told ≡ Some files
+  pub names : FileNames
+  pub are : names_of words ≡ Some names
+  pub loaded : Loaded
+  pub world : HasWorld told names loaded
+  pub script : Script
+  pub read : HasScript told names script
+
+-- the run ended well, or an allocation was refused
+abbrev pub IsDoneOrMemory : Status → Type 0
+IsDoneOrMemory Done = Unit {0}
+IsDoneOrMemory OutOfMemory = Unit {0}
+IsDoneOrMemory _ = ⊥

@@ -6,3 +6,4 @@ pub mod Status
 pub mod Reading
 pub mod Outputs
 pub mod Ends
+pub mod Prepared

@@ -9,6 +9,7 @@ mod canvas;
 mod fold;
 mod loading;
 mod outputs;
+mod run;
 mod run_text;
 mod session;
 mod status;
