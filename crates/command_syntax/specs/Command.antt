@@ -15,8 +15,11 @@ only state = record { entries = record { weight = 1; value = Fixed state } ∷ [
 
 -- The state of a word: a block's name, in the namespace minecraft where it names none; no properties.
 abbrev pub state_of : List ℕ → Option State
-state_of word = if is_block_name (with_namespace word) then Some (record { name = with_namespace word; properties = [] }) else None
+state_of word =
+    let name = with_namespace word in
+    if is_block_name name then Some (record { name = name; properties = [] }) else None
 
+-- the command of a line's words
 abbrev pub command_from : List (List ℕ) → Option Command
 command_from (verb ∷ argument ∷ []) =
     if bytes_eq verb (codes "//pos1") then option_map Pos1 (position_of argument)
@@ -37,6 +40,7 @@ is_name_byte b = (nat_le 65 b && nat_le b 90) || (nat_le 97 b && nat_le b 122) |
 abbrev pub is_player_name : List ℕ → Bool
 is_player_name name = nat_lt 0 (length name) && nat_le (length name) 16 && list_all is_name_byte name
 
+-- the player of a line's words
 abbrev pub player_from : List (List ℕ) → Option (List ℕ)
 player_from (verb ∷ name ∷ []) = if bytes_eq verb (codes "player") && is_player_name name then Some name else None
 player_from _ = None

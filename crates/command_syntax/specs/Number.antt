@@ -17,8 +17,10 @@ natural_of bytes = if is_digits bytes then Some (digits_value 10 bytes) else Non
 -- A number: an optional minus, and 1 to 10 digits.
 abbrev pub number_of : List ℕ → Option ℤ
 number_of [] = None
-number_of (b ∷ bytes) = if b == 45 then option_map (λ n. neg_ℤ (pos n)) (natural_of bytes) else option_map pos (natural_of (b ∷ bytes))
+number_of (b ∷ bytes) = if b == 45 then option_map (λ n. neg_ℤ (pos n)) (natural_of bytes)
+    else option_map pos (natural_of (b ∷ bytes))
 
+-- the number is one from low to high
 abbrev pub is_between : ℤ → ℤ → ℤ → Bool
 is_between low high n = int_le low n && int_le n high
 
@@ -36,9 +38,12 @@ is_on_map p = is_across p.x && is_height p.y && is_across p.z
 
 -- the position of three numbers, where they are within the limits
 abbrev pub position_at : Option ℤ → Option ℤ → Option ℤ → Option Pos
-position_at (Some x) (Some y) (Some z) = let p : Pos = record { x = x; y = y; z = z } in if is_on_map p then Some p else None
+position_at (Some x) (Some y) (Some z) =
+    let p : Pos = record { x = x; y = y; z = z } in
+    if is_on_map p then Some p else None
 position_at _ _ _ = None
 
+-- the position of a word that was cut at its commas
 abbrev pub position_from : List (List ℕ) → Option Pos
 position_from (x ∷ y ∷ z ∷ []) = position_at (number_of x) (number_of y) (number_of z)
 position_from _ = None

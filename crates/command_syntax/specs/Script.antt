@@ -15,9 +15,11 @@ numbered line = option_map (λ command. record { number = line.0; command = comm
 abbrev pub commands_of : List (List ℕ) → Option (List Line)
 commands_of lines = if nat_le (length lines) 10000 then all_of (map numbered (enumerate_from 2 lines)) else None
 
+-- the script of a file's lines
 abbrev pub script_from : List (List ℕ) → Option Script
 script_from [] = None
-script_from (first ∷ rest) = option_and_then (λ player. option_map (λ lines. record { player = player; lines = lines }) (commands_of rest)) (player_of first)
+script_from (first ∷ rest) =
+    option_and_then (λ player. option_map (λ lines. record { player = player; lines = lines }) (commands_of rest)) (player_of first)
 
 -- The script of a file's bytes, where they are plain.
 abbrev pub script_of : List ℕ → Option Script

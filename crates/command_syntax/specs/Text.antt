@@ -6,8 +6,8 @@ use Rattle.std.specs.List.{slice_split}
 abbrev pub parts : ℕ → List ℕ → List (List ℕ)
 parts separator bytes = slice_split (λ b. b == separator) bytes
 
--- The lines of a text, each of which ends with a line feed; none where the last one doesn't, or where
--- there is no line.
+-- The lines of a text: what stands between its line feeds, before the one that ends the text. None where
+-- the text doesn't end with a line feed.
 abbrev pub lines_of : List ℕ → Option (List (List ℕ))
 lines_of text = if slice_index text (length text - 1) == 10 then Some (parts 10 (take (length text - 1) text)) else None
 

@@ -12,7 +12,8 @@ pub(crate) fn parts_of(alloc: Global, bytes: &[u8], separator: u8) -> Result<Vec
 
 /// The two parts around the one separator. None where it doesn't stand there exactly once.
 pub(crate) fn two_parts(bytes: &[u8], separator: u8) -> Option<(&[u8], &[u8])>
-    ensures { MatchOption result (length (parts separator bytes.now) ≢ 2) (λ cut. parts separator bytes.now ≡ cut.0.now ∷ cut.1.now ∷ []) }
+    ensures { MatchOption result (length (parts separator bytes.now) ≢ 2)
+        (λ cut. parts separator bytes.now ≡ cut.0.now ∷ cut.1.now ∷ []) }
 {
     let (first, second) = split_once(bytes, separator)?;
     match split_once(second, separator) {
@@ -23,7 +24,8 @@ pub(crate) fn two_parts(bytes: &[u8], separator: u8) -> Option<(&[u8], &[u8])>
 
 /// The three parts around two separators. None where there aren't exactly two.
 pub(crate) fn three_parts(bytes: &[u8], separator: u8) -> Option<(&[u8], &[u8], &[u8])>
-    ensures { MatchOption result (length (parts separator bytes.now) ≢ 3) (λ cut. parts separator bytes.now ≡ cut.0.now ∷ cut.1.now ∷ cut.2.now ∷ []) }
+    ensures { MatchOption result (length (parts separator bytes.now) ≢ 3)
+        (λ cut. parts separator bytes.now ≡ cut.0.now ∷ cut.1.now ∷ cut.2.now ∷ []) }
 {
     let (first, rest) = split_once(bytes, separator)?;
     let (second, third) = two_parts(rest, separator)?;
@@ -33,7 +35,8 @@ pub(crate) fn three_parts(bytes: &[u8], separator: u8) -> Option<(&[u8], &[u8], 
 /// What stands before and behind the first separator. None where there is none.
 #[tactic(auto, using(crate::proofs::Separators::parts_whole))]
 fn split_once(bytes: &[u8], separator: u8) -> Option<(&[u8], &[u8])>
-    ensures cases { MatchOption result (parts separator bytes.now ≡ bytes.now ∷ []) (λ cut. parts separator bytes.now ≡ cut.0.now ∷ parts separator cut.1.now) }
+    ensures cases { MatchOption result (parts separator bytes.now ≡ bytes.now ∷ [])
+        (λ cut. parts separator bytes.now ≡ cut.0.now ∷ parts separator cut.1.now) }
     ensures several { OnSome result (2 ≤ length (parts separator bytes.now)) }
 {
     let at = first_place(bytes, separator)?;

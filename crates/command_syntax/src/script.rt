@@ -12,9 +12,15 @@ use crate::player::player_of;
 use edit_terms::{Items, Line, Script};
 use std::alloc::Global;
 
-/// Reads a plain script: lines that each end with a line feed, the first `player NAME`, each later one
-/// `//pos1 X,Y,Z`, `//pos2 X,Y,Z` or `//set STATE`.
-
+/// Reads a plain script, of at most 1,048,576 bytes.
+///
+/// Each of its lines ends with a line feed. The first is `player NAME`, and each later one
+/// `//pos1 X,Y,Z`, `//pos2 X,Y,Z` or `//set STATE`, with one space between the two words: at most 10,000
+/// commands. A name is 1 to 16 of A to Z, a to z, 0 to 9 and `_`. A number is an optional `-` and 1 to 10
+/// digits; x and z are -33,554,432 to 33,554,431, and y is -2,048 to 2,047. A state is a block's name, and
+/// one without a namespace is in `minecraft`. The player's line is number 1.
+///
+/// `Unbuilt` for any other bytes; `Memory` where an allocation was refused.
 pub fn read_script(alloc: Global, bytes: &[u8]) -> Result<Script, ScriptFault>
     requires { length bytes.now ≤ 1048576 }
     ensures read { IsRead (script_of bytes.now) result }
@@ -29,7 +35,8 @@ pub fn read_script(alloc: Global, bytes: &[u8]) -> Result<Script, ScriptFault>
 
 /// What stands before a line feed at the end. None where there isn't one.
 fn without_last_feed(bytes: &[u8]) -> Option<&[u8]>
-    ensures { MatchOption result (lines_of bytes.now ≡ None) (λ text. lines_of bytes.now ≡ Some (parts 10 text.now)) }
+    ensures { MatchOption result (lines_of bytes.now ≡ None)
+        (λ text. lines_of bytes.now ≡ Some (parts 10 text.now)) }
 {
     match bytes {
         [text @ .., b'\n'] => Some(text),
@@ -37,6 +44,7 @@ fn without_last_feed(bytes: &[u8]) -> Option<&[u8]>
     }
 }
 
+/// The script of these lines.
 fn script_from(alloc: Global, lines: &[&[u8]]) -> Result<Script, ScriptFault>
     ensures { IsRead (script_from (map (λ line. line.now) lines.now)) result }
 {
@@ -48,6 +56,7 @@ fn script_from(alloc: Global, lines: &[&[u8]]) -> Result<Script, ScriptFault>
     Ok(Script { player, lines })
 }
 
+/// The commands of the lines behind the player's.
 fn commands_of(alloc: Global, lines: &[&[u8]]) -> Result<Items<Line>, ScriptFault>
     ensures { IsRead (commands_of (map (λ line. line.now) lines.now)) result }
 {
