@@ -3,3 +3,4 @@ pub mod Text
 pub mod Varint
 pub mod Schematic
 pub mod Read
+pub mod Numbers

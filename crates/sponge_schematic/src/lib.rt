@@ -5,10 +5,14 @@
 //! world that is kept; for now of plain files alone, whose states have no properties.
 #![tactic(auto)]
 
+
 mod carried;
 mod fault;
+
 mod loaded;
+mod numbering;
 mod reading;
+mod tags;
 mod writing;
 
 pub use carried::Carried;
