@@ -1,10 +1,11 @@
 -- The test by which block states are told to be equal: name and properties, byte by byte.
-use Rattle.std.specs.Prelude.{◌≡◌, ℕ, Bool, true, ◌&&◌, ◌==◌, List, Decides, refl}
+use Rattle.std.specs.Prelude.{◌≡◌, ℕ, Bool, true, false, ◌&&◌, ◌==◌, List, Option, Some, None, Decides, refl}
 use Rattle.std.specs.Cmp.Lexicographic.{pointwise, pointwise_decides, bytes_decides}
 use Rattle.std.specs.Cmp.{IsEquivalence, decided}
 use Rattle.std.proofs.lemmas.Bool.Decides.{Decides-and, Decides-like}
 use Rattle.std.proofs.Common.{ap}
 use Rattle.edit_terms.specs.StateText.{State}
+use Rattle.edit_terms.specs.World.{EntityTags, BlockContent}
 
 -- the same key and value
 abbrev pub same_property : List ℕ × List ℕ → List ℕ × List ℕ → Bool
@@ -28,3 +29,17 @@ state_decides s t =
 -- the test of two states is an equivalence
 pub state_equivalence : IsEquivalence same_state
 state_equivalence = decided same_state state_decides
+
+-- the same tags before and after
+abbrev pub same_tags : EntityTags → EntityTags → Bool
+same_tags a b = pointwise ◌==◌ a.before b.before && pointwise ◌==◌ a.after b.after
+
+-- both none, or the same entity
+abbrev pub same_entity : Option EntityTags → Option EntityTags → Bool
+same_entity None None = true
+same_entity (Some a) (Some b) = same_tags a b
+same_entity _ _ = false
+
+-- the same state and the same entity
+abbrev pub same_content : BlockContent → BlockContent → Bool
+same_content a b = same_state a.state b.state && same_entity a.entity b.entity

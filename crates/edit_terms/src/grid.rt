@@ -76,9 +76,10 @@ impl Grid {
         &self.kinds
     }
 
-    /// The number of each position's state, in index order.
+    /// The number of each position's state, in index order: each position has one, and each names a state.
     pub fn cells(&self) -> &[u32]
-        ensures { result.now ≡ self.now.cells }
+        ensures cells { result.now ≡ self.now.cells }
+        ensures numbered { is_numbered self.now.area self.now.kinds self.now.cells ≡ true }
     {
         &self.cells
     }

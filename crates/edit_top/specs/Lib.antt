@@ -1,0 +1,2 @@
+pub mod Canvas
+pub mod Plain

@@ -1,0 +1,11 @@
+//! The program's top call.
+//!
+//! `run` reads a world's file and a player's script, runs the script, saves the world and prints each
+//! command's reply. Its contract is the end-to-end theorem: what it saves and prints is what a plain fold
+//! of the commands in one order gives, and each other ending comes with its cause.
+#![tactic(auto)]
+
+mod canvas;
+mod session;
+
+pub use memory::Memory;

@@ -1,0 +1,11 @@
+pub mod Count
+pub mod Store
+pub mod Output
+pub mod StoreCounts
+pub mod FileList
+pub mod FailPlan
+pub mod MemoryShelf
+pub mod MemorySink
+pub mod SteadyShelf
+pub mod DiskShelf
+pub mod TermSink
