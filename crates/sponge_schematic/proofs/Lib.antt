@@ -1,2 +1,4 @@
+pub mod Entries
+pub mod Worlds
 pub mod Table
 pub mod Varints

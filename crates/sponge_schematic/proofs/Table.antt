@@ -65,13 +65,13 @@ table_set kinds palette grown table kind n h unique kept within there = record {
     right k m e =
         elim (cases_eq k kind) [
           | inl same ↦
-            let inside : kind < length table = omega (arith, h.long) in
-            let own : Some n ≡ Some m = sym (ap (λ (i : ℕ). get_or (set table kind (Some n)) i None) same ∙ get_or-set_same table kind (Some n) None inside) ∙ e in
-            let number : n ≡ m = cc in
-            ap (slice_get grown) (sym number) ∙ there ∙ ap (λ (i : ℕ). Some (get_or kinds i air)) (sym same)
+              let inside : kind < length table = omega (arith, h.long) in
+              let own : Some n ≡ Some m = sym (ap (λ (i : ℕ). get_or (set table kind (Some n)) i None) same ∙ get_or-set_same table kind (Some n) None inside) ∙ e in
+              let number : n ≡ m = cc in
+              ap (slice_get grown) (sym number) ∙ there ∙ ap (λ (i : ℕ). Some (get_or kinds i air)) (sym same)
           | inr other ↦
-            let before : get_or table k None ≡ Some m = sym (get_or-set_other table kind k (Some n) None other) ∙ e in
-            ap (λ (ds : List State). slice_get ds m) longer ∙ slice_get-append palette (drop (length palette) grown) m _ (h.right k m before)
+              let before : get_or table k None ≡ Some m = sym (get_or-set_other table kind k (Some n) None other) ∙ e in
+              ap (λ (ds : List State). slice_get ds m) longer ∙ slice_get-append palette (drop (length palette) grown) m _ (h.right k m before)
         ]
 
 -- at first no kind is known

@@ -5,10 +5,8 @@
 //! world that is kept; for now of plain files alone, whose states have no properties.
 #![tactic(auto)]
 
-
 mod carried;
 mod fault;
-
 mod loaded;
 mod numbering;
 mod reading;

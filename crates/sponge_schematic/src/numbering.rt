@@ -1,32 +1,32 @@
 //! Numbering a world's blocks by the first appearance of their states.
-ghost use Rattle.std.specs.Prelude.{◌≡◌, ◌++◌, ◌∷◌, [], ◌<◌, ◌-◌, ◌^◌, length, map, get_or, replicate, None, Some, IfOk, OnOk, All};
-ghost use Rattle.std.specs.List.{flat_map};
-ghost use Rattle.edit_terms.specs.StateText.{air};
+ghost use Rattle.std.specs.Prelude.{◌≡◌, ◌++◌, [], ◌<◌, ◌-◌, ◌^◌, length, replicate, None, IfOk, OnOk, All};
+ghost use Rattle.edit_terms.specs.Grid.{world_of};
 ghost use Rattle.edit_terms.specs.Same.{same_state};
-ghost use Rattle.block_palette.specs.Numbering.{distinct, numbers, number_in, with_entry};
+ghost use Rattle.block_palette.specs.Numbering.{number_in, with_entry};
+ghost use Rattle.sponge_schematic.specs.Schematic.{palette_of, block_data, IsPlainGrid};
 ghost use Rattle.sponge_schematic.specs.Varint.{varint};
 ghost use Rattle.sponge_schematic.specs.Numbers.{IsTable, kind_of};
 
 use block_palette::Palette;
-use edit_terms::BlockState;
+use edit_terms::{BlockState, Grid};
 use memory::Memory;
 use std::alloc::Global;
 
 /// The palette of a world's blocks, and the varints of their numbers in it.
 pub(crate) fn number_blocks(
     alloc: Global,
-    kinds: &[BlockState],
-    cells: &[u32],
+    grid: &Grid,
 ) -> Result<(Palette<BlockState>, Vec<u8>), Memory>
-    requires within { All (λ kind. kind < length kinds.now) cells.now }
-    requires few { length cells.now < 2 ^ 32 - 1 }
-    ensures palette { IfOk result (λ r. r.0 ≡ distinct same_state (map (kind_of kinds.now) cells.now)) }
-    ensures data { IfOk result (λ r. r.1.items ≡ flat_map varint (numbers same_state (map (kind_of kinds.now) cells.now))) }
+    requires { IsPlainGrid grid.now }
+    ensures palette { IfOk result (λ r. r.0 ≡ palette_of (world_of grid.now)) }
+    ensures data { IfOk result (λ r. r.1.items ≡ block_data (world_of grid.now)) }
+    ensures plain { IfOk result (λ r. All (λ s. s.properties ≡ []) r.0) }
 {
+    let kinds = grid.kinds();
     let mut palette = Palette::new(alloc);
     let mut table = empty_table(alloc, kinds.len())?;
-    let mut data = Vec::with_capacity(alloc, cells.len())?;
-    for kind in cells {
+    let mut data = Vec::with_capacity(alloc, grid.area().volume() as usize)?;
+    for kind in grid.cells() {
         let number = number_of(alloc, &mut palette, &mut table, kinds, *kind as usize)?;
         put_varint(&mut data, number)?;
     }

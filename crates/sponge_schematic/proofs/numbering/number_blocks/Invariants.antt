@@ -9,8 +9,8 @@ use Rattle.sponge_schematic.proofs.numbering.number_blocks.Given as goal
 
 abbrev pub invariant-loop-kind : goal.invariant-loop-kind
 invariant-loop-kind l = record {
-  palette_is : l.palette ≡ distinct same_state (take l.kind-index (map (kind_of l.kinds) l.cells));
-  data_is : l.data.items ≡ flat_map varint (numbers same_state (take l.kind-index (map (kind_of l.kinds) l.cells)));
+  palette_is : l.palette ≡ distinct same_state (take l.kind-index (map (kind_of l.kinds) l.kind-items));
+  data_is : l.data.items ≡ flat_map varint (numbers same_state (take l.kind-index (map (kind_of l.kinds) l.kind-items)));
   known : IsTable l.kinds l.palette l.table.items;
   few : length l.palette ≤ l.kind-index;
 }
