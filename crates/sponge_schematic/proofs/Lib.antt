@@ -1,3 +1,5 @@
+pub mod Candidates
+pub mod Loop
 pub mod Entries
 pub mod Worlds
 pub mod Table

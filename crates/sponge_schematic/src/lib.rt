@@ -5,8 +5,11 @@
 //! world that is kept; for now of plain files alone, whose states have no properties.
 #![tactic(auto)]
 
+mod candidate;
 mod carried;
 mod fault;
+mod fields;
+mod limits;
 mod loaded;
 mod numbering;
 mod reading;
