@@ -1,3 +1,7 @@
+pub mod PlainFiles
+pub mod PartsAgain
+pub mod CellsAgain
+pub mod FieldsAgain
 pub mod Candidates
 pub mod Loop
 pub mod Entries

@@ -50,7 +50,7 @@ all_states g kinds cells i numbered these those le =
     ∙ sym (states_of_grid g (numbering_of g numbered).long)
 
 -- a palette has only states of the world
-distinct_have : (P : State → Type 0) (xs : List State) → All P xs → All P (distinct same_state xs)
+pub distinct_have : (P : State → Type 0) (xs : List State) → All P xs → All P (distinct same_state xs)
 unfolding distinct
 distinct_have P [] h = h
 distinct_have P (x ∷ xs) h = All-cons P x _ (All-head P x xs h) (All-filter _ P _ (distinct_have P xs (All-tail P x xs h)))

@@ -32,7 +32,9 @@ abbrev pub number_at : Width → List ℕ → Option (ℕ × List ℕ)
 number_at w bytes = if nat_lt (length bytes) (byte_len w) then None else Some (from_be_bytes w (take (byte_len w) bytes), drop (byte_len w) bytes)
 
 abbrev pub signed_at : List ℕ → Option (ℤ × List ℕ)
-signed_at bytes = if nat_lt (length bytes) 4 then None else Some (cast_signed w32 (from_be_bytes w32 (take 4 bytes)), drop 4 bytes)
+signed_at bytes = do
+  n ← number_at w32 bytes
+  Some (cast_signed w32 n.0, n.1)
 
 -- a tag of this name that holds a number
 unfoldable pub short_at : List ℕ → List ℕ → Option (ℕ × List ℕ)

@@ -1,5 +1,6 @@
 //! Reading a candidate: what a file is the file of, if it is plain.
-ghost use Rattle.std.specs.Prelude.{◌≡◌, true, All, IfOk};
+ghost use Rattle.std.specs.Prelude.{◌≡◌, true, All, IfOk, FitsSigned};
+ghost use Rattle.std.specs.Int.{w32};
 ghost use Rattle.edit_terms.specs.Area.{is_world_box};
 ghost use Rattle.sponge_schematic.specs.Reading.{Gives, box_at, world_box, named_state, entry_at, varint_at, times, palette_at, cells_at, grid_of, grid_at, world_at, candidate};
 ghost use Rattle.sponge_schematic.specs.Schematic.{IsPlainState};
@@ -18,6 +19,7 @@ use std::alloc::Global;
 pub(crate) fn candidate(alloc: Global, bytes: &[u8]) -> Result<World, WorldFault>
     ensures gives { Gives (λ w. (w.carried.data_version, w.grid)) result (candidate bytes.now) }
     ensures plain { IfOk result (λ w. IsCandidate w.grid) }
+    ensures version { IfOk result (λ w. FitsSigned w32 w.carried.data_version) }
 {
     let tags = behind(26, bytes)?;
     let (data_version, rest) = int_at(b"DataVersion", tags)?;

@@ -40,12 +40,8 @@ fn u32_at(bytes: &[u8]) -> Result<(u32, &[u8]), WorldFault>
 fn i32_at(bytes: &[u8]) -> Result<(i32, &[u8]), WorldFault>
     ensures { Gives (λ x. (x.0, x.1.now)) result (signed_at bytes.now) }
 {
-    if bytes.len() < 4 {
-        return Err(WorldFault::Unbuilt);
-    }
-    let (front, rest) = bytes.split_at(4);
-    let number = i32::from_be_bytes([front[0], front[1], front[2], front[3]]);
-    Ok((number, rest))
+    let (number, rest) = u32_at(bytes)?;
+    Ok((number.cast_signed(), rest))
 }
 
 /// The number of a Short of this name.
@@ -130,7 +126,10 @@ pub(crate) fn varint_at(bytes: &[u8]) -> Result<(u32, &[u8]), WorldFault>
     let high = u32::from(c - 128);
     let (d, rest) = byte_at(rest)?;
     if d < 128 {
-        return Ok((low + 128 * (middle + 128 * (high + 128 * u32::from(d))), rest));
+        return Ok((
+            low + 128 * (middle + 128 * (high + 128 * u32::from(d))),
+            rest,
+        ));
     }
     Err(WorldFault::Unbuilt)
 }
