@@ -22,3 +22,6 @@ pub use loaded::World;
 pub use memory::Memory;
 pub use reading::{one_world_a_file, read_world};
 pub use writing::write_world;
+
+#[cfg(test)]
+mod tests;
