@@ -2,7 +2,7 @@
 use Rattle.std.specs.Prelude.{◌≡◌, ℕ, ℤ, pos, ◌+◌, true, List, [], ◌∷◌, ◌++◌, length, map, None, codes, All, FitsSigned}
 use Rattle.std.specs.List.{flat_map}
 use Rattle.std.specs.Int.{w32}
-use Rattle.edit_terms.specs.Area.{volume, is_world_box}
+use Rattle.edit_terms.specs.Area.{Area, volume, is_world_box}
 use Rattle.edit_terms.specs.StateText.{State, is_block_name}
 use Rattle.edit_terms.specs.Same.{same_state}
 use Rattle.edit_terms.specs.World.{BlockContent, World}
@@ -28,10 +28,22 @@ palette_of w = distinct same_state (states_of w)
 abbrev pub block_data : World → List ℕ
 block_data w = flat_map varint (numbers same_state (states_of w))
 
+-- the tags of the box: its sizes, and its least corner
+unfoldable pub box_tags : Area → List ℕ
+box_tags a =
+    short_tag (codes "Width") a.width
+    ++ short_tag (codes "Height") a.height
+    ++ short_tag (codes "Length") a.length
+    ++ int_array_tag (codes "Offset") (a.least.x ∷ a.least.y ∷ a.least.z ∷ [])
+
 -- a palette's entries from this number on: each an Int that is named by the state's text and holds its number
 abbrev pub entry_tags : ℕ → List State → List ℕ
 entry_tags number [] = []
 entry_tags number (s ∷ ss) = int_tag (state_text s) (pos number) ++ entry_tags (number + 1) ss
+
+-- the tags of the palette: how many entries it has, and the entries
+unfoldable pub palette_tags : List State → List ℕ
+palette_tags states = int_tag (codes "PaletteMax") (pos (length states)) ++ compound_tag (codes "Palette") (entry_tags 0 states)
 
 -- The file of a world without entities, byte by byte.
 unfoldable pub schematic_bytes : CarriedTags → World → List ℕ
@@ -39,12 +51,8 @@ schematic_bytes tags w =
     compound_tag (codes "Schematic")
     (int_tag (codes "Version") (pos 2)
     ++ int_tag (codes "DataVersion") tags.data_version
-    ++ short_tag (codes "Width") w.area.width
-    ++ short_tag (codes "Height") w.area.height
-    ++ short_tag (codes "Length") w.area.length
-    ++ int_array_tag (codes "Offset") (w.area.least.x ∷ w.area.least.y ∷ w.area.least.z ∷ [])
-    ++ int_tag (codes "PaletteMax") (pos (length (palette_of w)))
-    ++ compound_tag (codes "Palette") (entry_tags 0 (palette_of w))
+    ++ box_tags w.area
+    ++ palette_tags (palette_of w)
     ++ byte_array_tag (codes "BlockData") (block_data w))
 
 -- a block name without properties

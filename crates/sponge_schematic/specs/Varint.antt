@@ -8,5 +8,5 @@ varint_within zero n = n ∷ []
 varint_within (suc further) n = if nat_lt n 128 then n ∷ [] else (128 + n % 128) ∷ varint_within further (n / 128)
 
 -- the shortest varint of a number below 2^32: at most five bytes
-abbrev pub varint : ℕ → List ℕ
+unfoldable pub varint : ℕ → List ℕ
 varint n = varint_within 4 n

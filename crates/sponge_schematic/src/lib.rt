@@ -5,10 +5,15 @@
 //! world that is kept; for now of plain files alone, whose states have no properties.
 #![tactic(auto)]
 
+mod candidate;
 mod carried;
 mod fault;
+mod fields;
+mod limits;
 mod loaded;
+mod numbering;
 mod reading;
+mod tags;
 mod writing;
 
 pub use carried::Carried;
@@ -17,3 +22,6 @@ pub use loaded::World;
 pub use memory::Memory;
 pub use reading::read_world;
 pub use writing::write_world;
+
+#[cfg(test)]
+mod tests;

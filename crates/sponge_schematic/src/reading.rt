@@ -2,8 +2,10 @@ ghost use Rattle.std.specs.Prelude.{◌≡◌, ◌≤◌, ◌-◌, ◌^◌, leng
 ghost use Rattle.sponge_schematic.specs.Schematic.{Loaded, IsFileOf, IsPlain, IsPlainGrid, schematic_bytes};
 ghost use Rattle.sponge_schematic.specs.Read.{loaded_of, IsRefused};
 
+use crate::candidate::candidate;
 use crate::fault::WorldFault;
 use crate::loaded::World;
+use crate::writing::write_world;
 use std::alloc::Global;
 
 /// Reads a world's file: the world and what the file says beside it. Unbuilt exactly where the bytes are
@@ -13,7 +15,11 @@ pub fn read_world(alloc: Global, bytes: &[u8]) -> Result<World, WorldFault>
     ensures file { MatchResult result (λ w. IsFileOf bytes.now (loaded_of w)) (λ fault. IsRefused fault bytes.now) }
     ensures plain { IfOk result (λ w. IsPlainGrid w.grid) }
 {
-    let _ = alloc;
-    Err(WorldFault::Memory)
+    let world = candidate(alloc, bytes)?;
+    let written = write_world(alloc, &world.carried, &world.grid)?;
+    if written.as_slice() != bytes {
+        return Err(WorldFault::Unbuilt);
+    }
+    Ok(world)
 }
 

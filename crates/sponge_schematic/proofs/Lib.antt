@@ -1,0 +1,10 @@
+pub mod PlainFiles
+pub mod PartsAgain
+pub mod CellsAgain
+pub mod FieldsAgain
+pub mod Candidates
+pub mod Loop
+pub mod Entries
+pub mod Worlds
+pub mod Table
+pub mod Varints
