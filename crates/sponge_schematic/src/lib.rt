@@ -20,7 +20,7 @@ pub use carried::Carried;
 pub use fault::WorldFault;
 pub use loaded::World;
 pub use memory::Memory;
-pub use reading::read_world;
+pub use reading::{one_world_a_file, read_world};
 pub use writing::write_world;
 
 #[cfg(test)]

@@ -23,3 +23,8 @@ pub fn read_world(alloc: Global, bytes: &[u8]) -> Result<World, WorldFault>
     Ok(world)
 }
 
+/// Does nothing: its clause says that two plain files are equal only where their tags and worlds are.
+pub fn one_world_a_file()
+    ensures { (k l : Loaded) → IsPlain k.carried k.world → IsPlain l.carried l.world →
+        schematic_bytes k.carried k.world ≡ schematic_bytes l.carried l.world → k ≡ l }
+{}
