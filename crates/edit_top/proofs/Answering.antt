@@ -42,7 +42,7 @@ world_with-fixed selection pattern state seed ticket w is_only =
     ap (λ (cs : List BlockContent). record { area = w.area; contents = cs })
     (map-range_agrees (effect_at (Fill (Selected selection) pattern) seed ticket w) (λ i. cond (is_selected selection (position_of w.area i)) (without_entity state) (content_of w i)) 0 (volume w.area)
     (λ i low high. ap (λ (c : BlockContent). cond (is_selected selection (position_of w.area i)) c (content_of w i))
-        (pattern_value-one pattern (record { weight = 1; value = Fixed state }) seed ticket (position_of w.area i) (content_of w i) (ap (λ (p : Pattern). p.entries) is_only) (omega arith))))
+    (pattern_value-one pattern (record { weight = 1; value = Fixed state }) seed ticket (position_of w.area i) (content_of w i) (ap (λ (p : Pattern). p.entries) is_only) (omega arith))))
 
 -- a bare list stays one with a bare state more
 pub bare_more : (kinds : List State) (state : State) → state.properties ≡ [] → AreBare kinds → AreBare (kinds ++ state ∷ [])
@@ -56,7 +56,7 @@ set_is_answered s old new pattern selection fixed changed selected fills =
     record {
       session = refl;
       world = λ seed ticket. fills.world ∙ sym (world_with-fixed selection pattern fixed.state seed ticket (world_of old) fixed.only_entry)
-        ∙ ap (λ (t : Step). world_after_step t seed ticket (world_of old)) (sym step);
+          ∙ ap (λ (t : Step). world_after_step t seed ticket (world_of old)) (sym step);
       replied = ap Changed fills.changes ∙ ap (λ (t : Step). reply_to t (length (changes_between (world_of old) (world_of new)))) (sym step);
       numbered = fills.numbered;
       bare = λ each. subst (λ (ks : List State). AreBare ks) (sym fills.kinds) (bare_more old.kinds fixed.state fixed.no_properties each);
@@ -71,5 +71,6 @@ same_fixed pattern fixed state e =
     first_value : List Entry → Value
     first_value [] = Fixed state
     first_value (f ∷ fs) = f.value
+
     state_in : (◌≡◌ {A = Value} (Fixed fixed.state) (Fixed state)) → fixed.state ≡ state
     state_in h = cc

@@ -6,7 +6,7 @@ use Rattle.run_ports.specs.Count.{Rose}
 use Rattle.run_ports.specs.Store.{Files, StoreState, IsLater, IsSaved, IsTorn, with_file}
 use Rattle.run_ports.specs.Output.{OutputState, IsAppended, IsPartlyAppended}
 use Rattle.sponge_schematic.specs.Schematic.{schematic_bytes}
-use Rattle.edit_top.specs.declared.run.Prepared.{Prepared}
+use Rattle.edit_top.specs.declared.top_call.Prepared.{Prepared}
 use Rattle.edit_top.specs.declared.status.Status.{Status}
 use Rattle.edit_top.specs.declared.status.Status.TheVariants.{Done, Usage, ReadFault, TooLong, WorldRefused, ScriptRefused, SaveFault, PrintFault, OutOfMemory}
 use Rattle.edit_top.specs.Words.{FileNames, names_of}
@@ -46,9 +46,10 @@ torn_one before after name bytes stop = by_front stop.front stop.parts stop.save
     by_front : (front : List (List ℕ × List ℕ)) → (name, bytes) ∷ [] ≡ front ++ stop.output ∷ stop.rest → AreSaved before.files stop.between front → IsTorn before.files after.files name bytes × Rose (before.save_faults name) (after.save_faults name)
     by_front [] parts saved =
         let same : stop.output ≡ (name, bytes) = cc in
-        let torn : IsTorn stop.between after.files name bytes = subst (λ (o : List ℕ × List ℕ). IsTorn stop.between after.files o.0 o.1) same stop.torn in
-        (subst (λ (f : Option Files). IsTorn f after.files name bytes) (none_saved before.files stop.between saved) torn,
-         subst (λ (o : List ℕ × List ℕ). Rose (before.save_faults o.0) (after.save_faults o.0)) same stop.rose)
+        let torn : IsTorn stop.between after.files name bytes = subst (λ (o : List ℕ × List ℕ). IsTorn stop.between after.files o.0 o.1) same stop.torn in (
+          subst (λ (f : Option Files). IsTorn f after.files name bytes) (none_saved before.files stop.between saved) torn,
+          subst (λ (o : List ℕ × List ℕ). Rose (before.save_faults o.0) (after.save_faults o.0)) same stop.rose,
+        )
     by_front (o ∷ []) parts saved = absurd cc
     by_front (o ∷ p ∷ front) parts saved = absurd cc
 

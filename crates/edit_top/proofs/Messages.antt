@@ -42,9 +42,9 @@ told_part before mid after front piece rest first later part rose =
     cut n few same = record {
       kept = length front + n;
       part =
-        let front_is : take (length front + n) (front ++ (piece ++ rest)) ≡ front ++ take part.kept piece =
-            take-append-add front (piece ++ rest) n ∙ ap (λ (t : List ℕ). front ++ t) (take-append-le n piece rest few ∙ same) in
-        subst (λ (t : List ℕ). IsAppended before.written after.written t) (sym front_is) (appended_then before.written mid.written after.written front (take part.kept piece) first part.appended);
+          let front_is : take (length front + n) (front ++ (piece ++ rest)) ≡ front ++ take part.kept piece =
+          take-append-add front (piece ++ rest) n ∙ ap (λ (t : List ℕ). front ++ t) (take-append-le n piece rest few ∙ same) in
+          subst (λ (t : List ℕ). IsAppended before.written after.written t) (sym front_is) (appended_then before.written mid.written after.written front (take part.kept piece) first part.appended);
       whole = inr (rose_since before.faults mid.faults after.faults later.faults rose);
     }
 

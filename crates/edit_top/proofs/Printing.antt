@@ -31,7 +31,7 @@ turns_of-other order t player within apart = count_by_more_no (λ p. eqb p playe
 turns_of-take : (player t : ℕ) (order : List ℕ) → turns_of player (take t order) ≤ turns_of player order
 turns_of-take player t order =
     let parts : turns_of player order ≡ turns_of player (take t order) + turns_of player (drop t order) =
-        ap (turns_of player) (sym (take-append-drop t order)) ∙ sum_by-append (λ (p : ℕ). cond (eqb p player) 1 0) (take t order) (drop t order) in
+    ap (turns_of player) (sym (take-append-drop t order)) ∙ sum_by-append (λ (p : ℕ). cond (eqb p player) 1 0) (take t order) (drop t order) in
     omega (arith, parts)
 
 -- in a legal order a ticket's command is in its player's script
@@ -54,9 +54,9 @@ text_of_ticket-read scripts order replies t script line command within there nex
     let found = slice_get_read scripts (length scripts) (player_of order t) script refl within there in
     let name : name_of scripts (player_of order t) ≡ script.player = ap (λ (o : Option Script). option_map_or (λ s. s.player) o []) found in
     let number : line_number scripts (player_of order t) (command_number order t) ≡ line.number =
-        ap (λ (ls : List Line). option_map_or (λ l. l.number) (slice_get ls (command_number order t)) 0) (lines_of-read scripts (player_of order t) script within there)
-        ∙ ap (λ (k : ℕ). option_map_or (λ l. l.number) (slice_get script.lines k) 0) (sym next)
-        ∙ ap (λ (o : Option Line). option_map_or (λ l. l.number) o 0) line_there in
+    ap (λ (ls : List Line). option_map_or (λ l. l.number) (slice_get ls (command_number order t)) 0) (lines_of-read scripts (player_of order t) script within there)
+    ∙ ap (λ (k : ℕ). option_map_or (λ l. l.number) (slice_get script.lines k) 0) (sym next)
+    ∙ ap (λ (o : Option Line). option_map_or (λ l. l.number) o 0) line_there in
     ap (λ (n : List ℕ). ticket_text t n (line_number scripts (player_of order t) (command_number order t)) (get_or replies t Accepted)) name
     ∙ ap (λ (n : ℕ). ticket_text t script.player n (get_or replies t Accepted)) number
 
@@ -78,10 +78,10 @@ pub turns_step : (order taken : List ℕ) (scripts t : ℕ) → t < length order
 turns_step order taken scripts t within long here turns player below =
     elim (cases_eq player (get_or order t 0)) [
       | inl same ↦
-        let inside : get_or order t 0 < length taken = omega arith in
-        ap (λ (p : ℕ). get_or (set taken (get_or order t 0) (turns_of (get_or order t 0) (take t order) + 1)) p 0) same
-        ∙ get_or-set_same taken (get_or order t 0) (turns_of (get_or order t 0) (take t order) + 1) 0 inside
-        ∙ sym (turns_of-more order t within)
-        ∙ ap (λ (p : ℕ). turns_of p (take (t + 1) order)) (sym same)
+          let inside : get_or order t 0 < length taken = omega arith in
+          ap (λ (p : ℕ). get_or (set taken (get_or order t 0) (turns_of (get_or order t 0) (take t order) + 1)) p 0) same
+          ∙ get_or-set_same taken (get_or order t 0) (turns_of (get_or order t 0) (take t order) + 1) 0 inside
+          ∙ sym (turns_of-more order t within)
+          ∙ ap (λ (p : ℕ). turns_of p (take (t + 1) order)) (sym same)
       | inr apart ↦ get_or-set_other taken (get_or order t 0) player (turns_of (get_or order t 0) (take t order) + 1) 0 apart ∙ turns player below ∙ sym (turns_of-other order t player within apart)
     ]

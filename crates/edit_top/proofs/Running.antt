@@ -61,13 +61,13 @@ module _ (lines : List Line) (old mid new : GridParts) (i : ℕ) (replies : List
       let next : suc i ≡ i + 1 = omega arith in
       record {
         session = answered.session ∙ ap (λ (s : Session). after_command s line.command) in_session
-          ∙ ap (λ (l : Line). after_command (session_after (take i lines)) l.command) there
-          ∙ sym (fold_more (λ (s : Session) (l : Line). after_command s l.command) opening_session lines i line within);
+            ∙ ap (λ (l : Line). after_command (session_after (take i lines)) l.command) there
+            ∙ sym (fold_more (λ (s : Session) (l : Line). after_command s l.command) opening_session lines i line within);
         ran = record {
           world = λ seed. world_is seed ∙ ap (world_after_lines seed lines (world_of old)) next;
           replied = λ seed. ap (λ (rs : List Reply). rs ++ reply ∷ []) (ran.replied seed)
-            ∙ ap (λ (r : Reply). map (reply_of_line seed lines (world_of old)) (range_with_len 0 i) ++ r ∷ []) (reply_is seed)
-            ∙ sym (map-range_with_len_more (reply_of_line seed lines (world_of old)) 0 i i (omega arith));
+              ∙ ap (λ (r : Reply). map (reply_of_line seed lines (world_of old)) (range_with_len 0 i) ++ r ∷ []) (reply_is seed)
+              ∙ sym (map-range_with_len_more (reply_of_line seed lines (world_of old)) 0 i i (omega arith));
           numbered = answered.numbered;
           bare = λ each. answered.bare (ran.bare each);
         };
@@ -130,13 +130,13 @@ module _ (script : Script) where
         legal = legal_from_whole (script ∷ []) outcome.order whole;
         whole = whole;
         replies = ran.replied seed
-          ∙ ap (λ (v : World). map (reply_of_line seed script.lines v) (range_with_len 0 n)) opening
-          ∙ sym (map-range_agrees (reply_of case (replicate n 0)) (reply_of_line seed script.lines w) 0 n (λ k low high. reply_of-only w seed depth k (omega (arith, high))))
-          ∙ ap (λ (ps : List ℕ). map (reply_of case ps) (range_with_len 0 n)) (sym order)
-          ∙ ap (λ (m : ℕ). map (reply_of case outcome.order) (range_with_len 0 m)) (sym long);
+            ∙ ap (λ (v : World). map (reply_of_line seed script.lines v) (range_with_len 0 n)) opening
+            ∙ sym (map-range_agrees (reply_of case (replicate n 0)) (reply_of_line seed script.lines w) 0 n (λ k low high. reply_of-only w seed depth k (omega (arith, high))))
+            ∙ ap (λ (ps : List ℕ). map (reply_of case ps) (range_with_len 0 n)) (sym order)
+            ∙ ap (λ (m : ℕ). map (reply_of case outcome.order) (range_with_len 0 m)) (sym long);
         world = ran.world seed
-          ∙ ap (λ (v : World). world_after_lines seed script.lines v n) opening
-          ∙ sym (world_after-only w seed depth n (omega arith))
-          ∙ ap (λ (ps : List ℕ). world_after case ps n) (sym order)
-          ∙ ap (world_after case outcome.order) (sym long);
+            ∙ ap (λ (v : World). world_after_lines seed script.lines v n) opening
+            ∙ sym (world_after-only w seed depth n (omega arith))
+            ∙ ap (λ (ps : List ℕ). world_after case ps n) (sym order)
+            ∙ ap (world_after case outcome.order) (sym long);
       }

@@ -7,7 +7,7 @@ use Rattle.run_ports.specs.Count.{Rose}
 use Rattle.run_ports.specs.Store.{Files, StoreState}
 use Rattle.run_ports.specs.Output.{OutputState, IsAppended, IsPartlyAppended}
 use Rattle.sponge_schematic.specs.Schematic.{Loaded, schematic_bytes}
-use Rattle.edit_top.specs.declared.run.Prepared.{Prepared}
+use Rattle.edit_top.specs.declared.top_call.Prepared.{Prepared}
 use Rattle.edit_top.specs.declared.status.Status.{Status}
 use Rattle.edit_top.specs.declared.status.Status.TheVariants.{Done, SaveFault, PrintFault}
 use Rattle.edit_top.specs.Words.{FileNames}

@@ -17,6 +17,7 @@ use sponge_schematic::{World, WorldFault, read_world};
 use std::alloc::Global;
 
 const WORLD_LIMIT: u64 = 268_435_456;
+
 const SCRIPT_LIMIT: u64 = 1_048_576;
 
 /// Loads and reads the world.

@@ -46,7 +46,13 @@ fn tickets_text(
         let script = &scripts[*player as usize];
         let command = taken[*player as usize];
         let line = line_of(script, command);
-        push_ticket(&mut text, ticket, script.player.as_slice(), line.number, &replies[ticket])?;
+        push_ticket(
+            &mut text,
+            ticket,
+            script.player.as_slice(),
+            line.number,
+            &replies[ticket],
+        )?;
         taken[*player as usize] = command + 1;
     }
     Ok(text)

@@ -24,17 +24,45 @@ pub(crate) fn tell_fault<K: Sink>(out: &mut K, names: &Names<'_>, status: &Statu
         Status::Done | Status::PrintFault => tell(out, &[]),
         Status::Usage => tell_usage(out),
         Status::ReadFault { file } => {
-            tell(out, &[b"fault: cannot read ".as_slice(), names.file(*file), b"\n".as_slice()]);
+            tell(
+                out,
+                &[
+                    b"fault: cannot read ".as_slice(),
+                    names.file(*file),
+                    b"\n".as_slice(),
+                ],
+            );
         }
         Status::TooLong { file } => {
-            tell(out, &[b"fault: too long: ".as_slice(), names.file(*file), b"\n".as_slice()]);
+            tell(
+                out,
+                &[
+                    b"fault: too long: ".as_slice(),
+                    names.file(*file),
+                    b"\n".as_slice(),
+                ],
+            );
         }
         Status::WorldRefused { .. } => tell(out, &[b"fault: world: not built\n".as_slice()]),
         Status::ScriptRefused { script, .. } => {
-            tell(out, &[b"fault: script ".as_slice(), names.file(*script), b": not built\n".as_slice()]);
+            tell(
+                out,
+                &[
+                    b"fault: script ".as_slice(),
+                    names.file(*script),
+                    b": not built\n".as_slice(),
+                ],
+            );
         }
         Status::SaveFault => {
-            tell(out, &[b"fault: cannot save ".as_slice(), names.out.as_bytes(), b"\n".as_slice()]);
+            tell(
+                out,
+                &[
+                    b"fault: cannot save ".as_slice(),
+                    names.out.as_bytes(),
+                    b"\n".as_slice(),
+                ],
+            );
         }
         Status::OutOfMemory => tell(out, &[b"fault: memory\n".as_slice()]),
     }

@@ -14,10 +14,10 @@ loop-output-preserved g c =
     let after = g.F.Shelf.seen c.save.new.self in
     record {
       saved = subst (λ (os : List (List ℕ × List ℕ)). AreSaved before.files after.files os) (sym (map_push output_view c.loop-output.yielded c.in-Some.output))
-        (saved_then before.files mid.files after.files (map output_view c.loop-output.yielded) (output_view c.in-Some.output) c.loop-output.invariant.saved c.in_default.ensures.saved);
+          (saved_then before.files mid.files after.files (map output_view c.loop-output.yielded) (output_view c.in-Some.output) c.loop-output.invariant.saved c.in_default.ensures.saved);
       later = later_then before mid after c.loop-output.invariant.later c.in_default.ensures.later;
       split = append_assoc c.loop-output.yielded (c.in-Some.output ∷ []) (into_iter_items c.next.new.self)
-        ∙ ap (λ (os : List Output). c.loop-output.yielded ++ os) (sym c.in-Some.ensures.steps.0) ∙ c.loop-output.invariant.split;
+          ∙ ap (λ (os : List Output). c.loop-output.yielded ++ os) (sym c.in-Some.ensures.steps.0) ∙ c.loop-output.invariant.split;
     }
 
 pub returns-in-Err : goal.returns-in-Err
@@ -27,7 +27,7 @@ returns-in-Err g c =
     let after = g.F.Shelf.seen c.save.new.self in
     let output = output_view c.in-Some.output in
     let parts : c.args.outputs.items ≡ c.loop-output.yielded ++ (c.in-Some.output ∷ into_iter_items c.next.new.self) =
-        sym c.loop-output.invariant.split ∙ ap (λ (os : List Output). c.loop-output.yielded ++ os) c.in-Some.ensures.steps.0 in
+    sym c.loop-output.invariant.split ∙ ap (λ (os : List Output). c.loop-output.yielded ++ os) c.in-Some.ensures.steps.0 in
     record {
       saved = tt;
       stopped = record {

@@ -21,4 +21,4 @@ returns-in-Err g c =
     let bytes : Bor (List ℕ) → List ℕ = λ (piece : Bor (List ℕ)). piece.now in
     subst (λ (t : List ℕ). IsTold (g.K.Sink.seen c.args.out.now) (g.K.Sink.seen c.put.new.self) t) (sym (flat_map-at bytes pieces i none c.loop-piece-test.true))
     (told_part (g.K.Sink.seen c.args.out.now) (g.K.Sink.seen c.loop-piece.out) (g.K.Sink.seen c.put.new.self) (flat_map bytes (take i pieces)) (get_or pieces i none).now (flat_map bytes (drop (i + 1) pieces))
-        c.loop-piece.invariant.appended c.loop-piece.invariant.later c.in-Err.ensures.partly c.in-Err.ensures.failed)
+    c.loop-piece.invariant.appended c.loop-piece.invariant.later c.in-Err.ensures.partly c.in-Err.ensures.failed)

@@ -3,7 +3,7 @@ use Rattle.std.proofs.lemmas.List.FromFn.{length-map-range_with_len}
 use Rattle.edit_terms.specs.declared.outcome.Reply.{Reply}
 use Rattle.run_terms.specs.Workload.{workload_of}
 use Rattle.run_terms.specs.Reply.{reply_of}
-use Rattle.edit_top.proofs.run.text_of.Goals as goal
+use Rattle.edit_top.proofs.top_call.text_of.Goals as goal
 
 pub run_text-requires-clause-replied : goal.run_text-requires-clause-replied
 run_text-requires-clause-replied c =

@@ -135,7 +135,12 @@ fn make<'a>(
     let outcome = run_scripts(alloc, &case)?;
     let text = text_of(alloc, &case, &outcome)?;
     let bytes = write_world(alloc, &carried, &outcome.world)?;
-    let outputs = vec![in alloc; Output { name: names.out, bytes }]?;
+    let outputs = vec![in alloc;
+        Output {
+            name: names.out,
+            bytes
+        },
+    ]?;
     Ok(Prepared { outputs, text })
 }
 

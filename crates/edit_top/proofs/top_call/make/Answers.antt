@@ -9,7 +9,7 @@ use Rattle.edit_top.specs.declared.outputs.Output.{Output}
 use Rattle.edit_top.specs.Outputs.{output_view}
 use Rattle.edit_top.specs.RunText.{run_text}
 use Rattle.edit_top.specs.Ends.{workload}
-use Rattle.edit_top.proofs.run.make.Goals as goal
+use Rattle.edit_top.proofs.top_call.make.Goals as goal
 
 pub returns : goal.returns
 returns c =
@@ -23,6 +23,6 @@ returns c =
       legal = ran.legal;
       whole = ran.whole;
       outputs = ap (map output_view) listed
-        ∙ ap (λ (bytes : List ℕ). (c.args.names.now.out.now, bytes) ∷ []) (c.in_ok-bytes.ensures ∙ ap (schematic_bytes c.args.world.carried) ran.world);
+          ∙ ap (λ (bytes : List ℕ). (c.args.names.now.out.now, bytes) ∷ []) (c.in_ok-bytes.ensures ∙ ap (schematic_bytes c.args.world.carried) ran.world);
       text = c.in_ok-text.ensures ∙ ap (λ (w : Workload). run_text w outcome.order) is_start;
     }
