@@ -1,0 +1,16 @@
+//! Named binary tags of Minecraft's Java edition, both ways.
+#![tactic(auto)]
+
+mod ending;
+mod fault;
+mod fields;
+mod flaw;
+mod kind;
+mod tag;
+mod values;
+
+pub use fault::NbtFault;
+pub use memory::Memory;
+pub use sqlite_items::Items;
+pub use tag::{Named, Tag};
+pub use values::Values;
