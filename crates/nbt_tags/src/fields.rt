@@ -1,7 +1,7 @@
 //! The fields that all payloads are made of. A reader takes the bytes from its place to the end, and
 //! gives what stands there and the bytes behind it.
 
-ghost use Rattle.std.specs.Prelude.{◌≡◌, ◌<◌, ◌^◌, length};
+ghost use Rattle.std.specs.Prelude.{◌≡◌, ◌<◌, ◌^◌, length, IfOk};
 ghost use Rattle.std.specs.Int.{w8, w16, w32, w64};
 ghost use Rattle.nbt_tags.specs.Reading.{Gives, bytes_at, number_at, signed_at, text_at, kind_at, element_at, count_at, natural_count};
 
@@ -12,7 +12,8 @@ use byteorder::{BigEndian, ByteOrder};
 /// So many bytes.
 #[tactic(auto, unfolding(crate::specs::Reading::bytes_at))]
 pub fn bytes_at(count: usize, bytes: &[u8]) -> Result<(&[u8], &[u8]), Failure>
-    ensures { Gives (λ x. (x.0.now, x.1.now)) result (bytes_at count bytes.now) }
+    ensures gives { Gives (λ x. (x.0.now, x.1.now)) result (bytes_at count bytes.now) }
+    ensures sized { IfOk result (λ x. length x.0.now ≡ count) }
 {
     if bytes.len() < count {
         return Err(flaw_at(Cause::Short, bytes));
@@ -20,7 +21,7 @@ pub fn bytes_at(count: usize, bytes: &[u8]) -> Result<(&[u8], &[u8]), Failure>
     Ok(bytes.split_at(count))
 }
 
-#[tactic(auto, unfolding(crate::specs::Reading::number_at, crate::specs::Reading::bytes_at))]
+#[tactic(auto, unfolding(crate::specs::Reading::number_at))]
 pub fn u16_at(bytes: &[u8]) -> Result<(u16, &[u8]), Failure>
     ensures { Gives (λ x. (x.0, x.1.now)) result (number_at w16 bytes.now) }
 {
@@ -28,7 +29,7 @@ pub fn u16_at(bytes: &[u8]) -> Result<(u16, &[u8]), Failure>
     Ok((BigEndian::read_u16(cells), rest))
 }
 
-#[tactic(auto, unfolding(crate::specs::Reading::number_at, crate::specs::Reading::bytes_at))]
+#[tactic(auto, unfolding(crate::specs::Reading::number_at))]
 pub fn u32_at(bytes: &[u8]) -> Result<(u32, &[u8]), Failure>
     ensures { Gives (λ x. (x.0, x.1.now)) result (number_at w32 bytes.now) }
 {
@@ -36,7 +37,7 @@ pub fn u32_at(bytes: &[u8]) -> Result<(u32, &[u8]), Failure>
     Ok((BigEndian::read_u32(cells), rest))
 }
 
-#[tactic(auto, unfolding(crate::specs::Reading::number_at, crate::specs::Reading::bytes_at))]
+#[tactic(auto, unfolding(crate::specs::Reading::number_at))]
 pub fn u64_at(bytes: &[u8]) -> Result<(u64, &[u8]), Failure>
     ensures { Gives (λ x. (x.0, x.1.now)) result (number_at w64 bytes.now) }
 {
@@ -44,7 +45,7 @@ pub fn u64_at(bytes: &[u8]) -> Result<(u64, &[u8]), Failure>
     Ok((BigEndian::read_u64(cells), rest))
 }
 
-#[tactic(auto, unfolding(crate::specs::Reading::signed_at, crate::specs::Reading::bytes_at))]
+#[tactic(auto, unfolding(crate::specs::Reading::signed_at))]
 pub fn i8_at(bytes: &[u8]) -> Result<(i8, &[u8]), Failure>
     ensures { Gives (λ x. (x.0, x.1.now)) result (signed_at w8 bytes.now) }
 {
@@ -52,7 +53,7 @@ pub fn i8_at(bytes: &[u8]) -> Result<(i8, &[u8]), Failure>
     Ok((cells[0].cast_signed(), rest))
 }
 
-#[tactic(auto, unfolding(crate::specs::Reading::signed_at, crate::specs::Reading::bytes_at))]
+#[tactic(auto, unfolding(crate::specs::Reading::signed_at))]
 pub fn i16_at(bytes: &[u8]) -> Result<(i16, &[u8]), Failure>
     ensures { Gives (λ x. (x.0, x.1.now)) result (signed_at w16 bytes.now) }
 {
@@ -60,7 +61,7 @@ pub fn i16_at(bytes: &[u8]) -> Result<(i16, &[u8]), Failure>
     Ok((BigEndian::read_i16(cells), rest))
 }
 
-#[tactic(auto, unfolding(crate::specs::Reading::signed_at, crate::specs::Reading::bytes_at))]
+#[tactic(auto, unfolding(crate::specs::Reading::signed_at))]
 pub fn i32_at(bytes: &[u8]) -> Result<(i32, &[u8]), Failure>
     ensures { Gives (λ x. (x.0, x.1.now)) result (signed_at w32 bytes.now) }
 {
@@ -68,7 +69,7 @@ pub fn i32_at(bytes: &[u8]) -> Result<(i32, &[u8]), Failure>
     Ok((BigEndian::read_i32(cells), rest))
 }
 
-#[tactic(auto, unfolding(crate::specs::Reading::signed_at, crate::specs::Reading::bytes_at))]
+#[tactic(auto, unfolding(crate::specs::Reading::signed_at))]
 pub fn i64_at(bytes: &[u8]) -> Result<(i64, &[u8]), Failure>
     ensures { Gives (λ x. (x.0, x.1.now)) result (signed_at w64 bytes.now) }
 {
@@ -121,7 +122,8 @@ fn natural_count<'a>(
     count: i32,
     rest: &'a [u8],
 ) -> Result<(usize, &'a [u8]), Failure>
-    ensures { Gives (λ x. (x.0, x.1.now)) result (natural_count bytes.now count rest.now) }
+    ensures gives { Gives (λ x. (x.0, x.1.now)) result (natural_count bytes.now count rest.now) }
+    ensures small { IfOk result (λ x. x.0 < 2 ^ 31) }
 {
     if count < 0 {
         return Err(flaw_at(Cause::BadCount, bytes));
@@ -132,7 +134,8 @@ fn natural_count<'a>(
 /// The count of an array.
 #[tactic(auto, unfolding(crate::specs::Reading::count_at))]
 pub fn count_at(bytes: &[u8]) -> Result<(usize, &[u8]), Failure>
-    ensures { Gives (λ x. (x.0, x.1.now)) result (count_at bytes.now) }
+    ensures gives { Gives (λ x. (x.0, x.1.now)) result (count_at bytes.now) }
+    ensures small { IfOk result (λ x. x.0 < 2 ^ 31) }
 {
     let (count, rest) = i32_at(bytes)?;
     natural_count(bytes, count, rest)

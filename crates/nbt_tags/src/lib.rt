@@ -1,16 +1,19 @@
 //! Named binary tags of Minecraft's Java edition, both ways.
 #![tactic(auto)]
 
+mod arrays;
 mod ending;
 mod fault;
 mod fields;
 mod flaw;
 mod kind;
+mod room;
 mod tag;
 mod values;
 
 pub use fault::NbtFault;
 pub use memory::Memory;
+pub use room::room_for;
 pub use sqlite_items::Items;
 pub use tag::{Named, Tag};
 pub use values::Values;
