@@ -105,7 +105,7 @@ IsList P element (t ∷ ts) bytes = Joins (IsPlain element) (IsArray (IsItem P e
 
 -- the names that are taken, and this one
 abbrev pub also : List ℕ → (List ℕ → Bool) → List ℕ → Bool
-also name taken other = bytes_eq other name || taken other
+also name taken other = bytes_eq name other || taken other
 
 -- no name of the list is taken, and none stands in it twice
 abbrev pub AreFresh : (List ℕ → Bool) → List (List ℕ) → Type 0

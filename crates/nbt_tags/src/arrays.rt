@@ -2,9 +2,11 @@
 
 ghost use Rattle.std.specs.Prelude.{◌≡◌, ◌≤◌, ◌<◌, ◌*◌, ◌^◌, length, IfOk};
 ghost use Rattle.std.specs.Int.{w8, w16, w32, w64};
-ghost use Rattle.nbt_tags.specs.Reading.{Gives, numbers_in, numbers_at, byte_array_at, string_at, int_array_at, long_array_at};
+ghost use Rattle.nbt_tags.specs.Reading.{Gives, numbers_in, numbers_at, byte_array_at, string_at, int_array_at, long_array_at, signed_tag, bits_tag};
 
-use crate::fields::{bytes_at, count_at, text_at};
+use crate::fields::{
+    bytes_at, count_at, i8_at, i16_at, i32_at, i64_at, text_at, u32_at, u64_at,
+};
 use crate::flaw::Failure;
 use crate::room::with_room;
 use crate::tag::Tag;
@@ -104,4 +106,46 @@ pub fn long_array_at(alloc: Global, bytes: &[u8]) -> Result<(Tag, &[u8]), Failur
     let (count, rest) = count_at(bytes)?;
     let (items, rest) = longs_at(alloc, count, rest)?;
     Ok((Tag::LongArray(items), rest))
+}
+
+pub fn byte_tag_at(bytes: &[u8]) -> Result<(Tag, &[u8]), Failure>
+    ensures { Gives (λ x. (x.0, x.1.now)) result (signed_tag w8 Tag.Byte bytes.now) }
+{
+    let (number, rest) = i8_at(bytes)?;
+    Ok((Tag::Byte(number), rest))
+}
+
+pub fn short_tag_at(bytes: &[u8]) -> Result<(Tag, &[u8]), Failure>
+    ensures { Gives (λ x. (x.0, x.1.now)) result (signed_tag w16 Tag.Short bytes.now) }
+{
+    let (number, rest) = i16_at(bytes)?;
+    Ok((Tag::Short(number), rest))
+}
+
+pub fn int_tag_at(bytes: &[u8]) -> Result<(Tag, &[u8]), Failure>
+    ensures { Gives (λ x. (x.0, x.1.now)) result (signed_tag w32 Tag.Int bytes.now) }
+{
+    let (number, rest) = i32_at(bytes)?;
+    Ok((Tag::Int(number), rest))
+}
+
+pub fn long_tag_at(bytes: &[u8]) -> Result<(Tag, &[u8]), Failure>
+    ensures { Gives (λ x. (x.0, x.1.now)) result (signed_tag w64 Tag.Long bytes.now) }
+{
+    let (number, rest) = i64_at(bytes)?;
+    Ok((Tag::Long(number), rest))
+}
+
+pub fn float_tag_at(bytes: &[u8]) -> Result<(Tag, &[u8]), Failure>
+    ensures { Gives (λ x. (x.0, x.1.now)) result (bits_tag w32 Tag.Float bytes.now) }
+{
+    let (bits, rest) = u32_at(bytes)?;
+    Ok((Tag::Float(bits), rest))
+}
+
+pub fn double_tag_at(bytes: &[u8]) -> Result<(Tag, &[u8]), Failure>
+    ensures { Gives (λ x. (x.0, x.1.now)) result (bits_tag w64 Tag.Double bytes.now) }
+{
+    let (bits, rest) = u64_at(bytes)?;
+    Ok((Tag::Double(bits), rest))
 }

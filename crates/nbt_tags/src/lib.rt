@@ -7,6 +7,7 @@ mod fault;
 mod fields;
 mod flaw;
 mod kind;
+mod names;
 mod room;
 mod tag;
 mod values;
