@@ -8,6 +8,7 @@ mod fields;
 mod flaw;
 mod kind;
 mod names;
+mod payload;
 mod room;
 mod tag;
 mod values;
