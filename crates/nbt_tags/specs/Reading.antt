@@ -279,6 +279,11 @@ placed size flaw = elim flaw.cause [
   | Trailing ↦ faults.Trailing (size - flaw.left)
   ]
 
+-- the fault of a reader that failed, in bytes of that length
+abbrev pub fault_of : ℕ → Failure → NbtFault
+fault_of size failures.Memory = faults.Memory
+fault_of size (failures.Flaw flaw) = placed size flaw
+
 abbrev pub with_places : {A : Type 0} → ℕ → Result A Flaw → Result A NbtFault
 with_places size (Ok x) = Ok x
 with_places size (Err flaw) = Err (placed size flaw)

@@ -2,6 +2,7 @@
 #![tactic(auto)]
 
 mod arrays;
+mod decode;
 mod ending;
 mod fault;
 mod fields;
