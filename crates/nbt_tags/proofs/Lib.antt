@@ -1,3 +1,5 @@
 pub mod Numbers
 pub mod TakenNames
 pub mod Steps
+pub mod Both
+pub mod FieldReads
