@@ -3,3 +3,4 @@ pub mod TakenNames
 pub mod Steps
 pub mod Both
 pub mod FieldReads
+pub mod LeafReads
