@@ -4,3 +4,4 @@ pub mod Steps
 pub mod Both
 pub mod FieldReads
 pub mod LeafReads
+pub mod ListReads
