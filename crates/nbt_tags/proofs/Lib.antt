@@ -5,3 +5,4 @@ pub mod Both
 pub mod FieldReads
 pub mod LeafReads
 pub mod ListReads
+pub mod RowReads
