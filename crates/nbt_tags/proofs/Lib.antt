@@ -6,3 +6,4 @@ pub mod FieldReads
 pub mod LeafReads
 pub mod ListReads
 pub mod RowReads
+pub mod TreeReads
