@@ -111,6 +111,21 @@ kind_of-type_byte kinds.LongArray = refl
 pub type_byte-same : (j k : Kind) → type_byte j ≡ type_byte k → j ≡ k
 type_byte-same j k e = some_is j k (sym (kind_of-type_byte j) ∙ ap kind_of e ∙ kind_of-type_byte k)
 
+-- a type byte is at most 12
+pub type_byte-low : (kind : Kind) → type_byte kind ≤ 12
+type_byte-low kinds.Byte = omega arith
+type_byte-low kinds.Short = omega arith
+type_byte-low kinds.Int = omega arith
+type_byte-low kinds.Long = omega arith
+type_byte-low kinds.Float = omega arith
+type_byte-low kinds.Double = omega arith
+type_byte-low kinds.ByteArray = omega arith
+type_byte-low kinds.Str = omega arith
+type_byte-low kinds.List = omega arith
+type_byte-low kinds.Compound = omega arith
+type_byte-low kinds.IntArray = omega arith
+type_byte-low kinds.LongArray = omega arith
+
 abbrev kind_or : Option Kind → List ℕ → ℕ → Read Kind
 kind_or o rest byte = elim o [ None ↦ Err (flaw_at BadType (byte ∷ rest)) | Some kind ↦ Ok (kind, rest) ]
 

@@ -7,3 +7,5 @@ pub mod LeafReads
 pub mod ListReads
 pub mod RowReads
 pub mod TreeReads
+pub mod WrittenTags
+pub mod Fits

@@ -11,7 +11,7 @@ use Rattle.nbt_tags.specs.Kinds.{type_byte, kind_of, tag_kind, tag_byte}
 use Rattle.nbt_tags.specs.Spelling.{Joins, IsEach, IsSigned, IsCount, IsPlain, IsItem, IsNoCount, IsList, IsArray}
 use Rattle.nbt_tags.specs.Reading.{Read, ◌>>=◌, signed_at, element_at, items_at, items_of, counted_at, list_in}
 use Rattle.nbt_tags.proofs.Both.{Found, Reads, Reads-same, Reads-map, Reads-then, ok_is}
-use Rattle.nbt_tags.proofs.FieldReads.{signed_at-reads, element_at-reads, IsElement, kind_of-type_byte, type_byte-kind_of, type_byte-same}
+use Rattle.nbt_tags.proofs.FieldReads.{signed_at-reads, element_at-reads, IsElement, kind_of-type_byte, type_byte-kind_of, type_byte-same, type_byte-low}
 use Rattle.nbt_tags.proofs.LeafReads.{Made, OfKind}
 
 -- the same parts in other words
@@ -126,20 +126,6 @@ module _ {P : Tag → List ℕ → Type 0} {payload : Kind → List ℕ → Read
       (is.0, record { front = first; back = count; whole = whole ∙ ap (λ (part : List ℕ). first ++ (count ++ part)) h.1 ∙ ap (λ (part : List ℕ). first ++ part) (append-nil count); first = is.1; second = record { count = z; none = h.0; spelled = counted } })
   list_from element (t ∷ ts) z bytes first count more whole is counted h =
       record { front = first; back = count ++ more; whole = whole; first = is.1; second = record { front = count; back = more; whole = refl; first = subst (λ (n : ℤ). IsSigned w32 n count) h.0 counted; second = h.1 } }
-
-  type_byte-low : (kind : Kind) → type_byte kind ≤ 12
-  type_byte-low kinds.Byte = omega arith
-  type_byte-low kinds.Short = omega arith
-  type_byte-low kinds.Int = omega arith
-  type_byte-low kinds.Long = omega arith
-  type_byte-low kinds.Float = omega arith
-  type_byte-low kinds.Double = omega arith
-  type_byte-low kinds.ByteArray = omega arith
-  type_byte-low kinds.Str = omega arith
-  type_byte-low kinds.List = omega arith
-  type_byte-low kinds.Compound = omega arith
-  type_byte-low kinds.IntArray = omega arith
-  type_byte-low kinds.LongArray = omega arith
 
   list_parts : (element : ℕ) (items : List Tag) (tag : Tag) (bytes : List ℕ) → tag ≡ tags.List element items → IsList P element items bytes → Parts tag bytes
   list_parts element [] tag bytes is h =

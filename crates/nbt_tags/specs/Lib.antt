@@ -3,3 +3,5 @@ pub mod Spelling
 pub mod Reading
 pub mod Room
 pub mod Taken
+pub mod WellFormed
+pub mod Written
