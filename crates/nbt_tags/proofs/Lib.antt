@@ -9,3 +9,4 @@ pub mod RowReads
 pub mod TreeReads
 pub mod WrittenTags
 pub mod Fits
+pub mod Spelled
