@@ -15,7 +15,7 @@ use Rattle.nbt_tags.specs.Kinds.{tag_byte, tag_kind}
 use Rattle.nbt_tags.specs.Spelling.{Layer, Nesting, Joins, IsEach, IsNumber, IsSigned, IsCount, IsText, IsPlain, IsLayer, IsItem, IsNoCount, IsList, IsArray, IsEntry, IsRow, IsCompound, IsPayload, nesting, max_depth, name_of, tag_of, Spells, SpellsRow}
 use Rattle.nbt_tags.specs.WellFormed.{AreBytes, IsName, AreCounted, Within, IsSound, IsSoundItem, IsSoundList, IsSoundEntry, IsSoundRow, within, IsSoundTag, IsWellFormed, IsWellFormedRow}
 use Rattle.nbt_tags.specs.Written.{Written, count_bytes, text_bytes, payload_bytes, written_tag, written, written_row}
-use Rattle.nbt_tags.proofs.WrittenTags.{inside, written_tag-byte, written_tag-payload, written-out}
+use Rattle.nbt_tags.proofs.WrittenTags.{inside, list_inside, compound_inside, written_tag-byte, written_tag-payload, written-out}
 
 -- ---- fields
 
@@ -54,10 +54,6 @@ array_spelled : {A : Type 0} (P : A → List ℕ → Type 0) (Q : A → Type 0) 
 array_spelled P Q f one xs h =
     record { front = count_bytes (length xs); back = flat_map f xs; whole = refl; first = count_spelled (length xs) h.count; second = each_spelled P Q f one xs h.each }
 
-flat_map-map : {A B : Type 0} (f : B → List ℕ) (g : A → B) (xs : List A) → flat_map f (map g xs) ≡ flat_map (λ x. f (g x)) xs
-flat_map-map f g [] = refl
-flat_map-map f g (x ∷ xs) = ap (λ (part : List ℕ). f (g x) ++ part) (flat_map-map f g xs)
-
 -- ---- lists and compounds
 
 module _ (P : Tag → List ℕ → Type 0) (W : Tag → Type 0) (one : (tag : Tag) → W tag → P tag (written_tag tag).payload) where
@@ -95,12 +91,6 @@ module _ (P : Tag → List ℕ → Type 0) (W : Tag → Type 0) (one : (tag : Ta
 record Spelt (N : Nesting) (W : Within) : Type 0 where
   list : (element : ℕ) (items : List Tag) → W.list element items → N.list element items (element ∷ (count_bytes (length items) ++ flat_map (λ tag. (written_tag tag).payload) items))
   compound : (row : List Named) → W.compound row → N.compound row (written_row row ++ 0 ∷ [])
-
-list_inside : (element : ℕ) (items : List Tag) → payload_bytes (inside (layer.List element items)) ≡ element ∷ (count_bytes (length items) ++ flat_map (λ tag. (written_tag tag).payload) items)
-list_inside element items = ap (λ (part : List ℕ). element ∷ part) (rw (length-map, flat_map-map (λ (item : Written). item.payload) written_tag items) refl)
-
-compound_inside : (row : List Named) → payload_bytes (inside (layer.Compound row)) ≡ written_row row ++ 0 ∷ []
-compound_inside row = ap (λ (part : List ℕ). part ++ 0 ∷ []) (flat_map-map (λ (entry : List ℕ). entry) written row)
 
 layer_spelled : (N : Nesting) (W : Within) → Spelt N W → (level : Layer) → IsSound W level → IsLayer N level (payload_bytes (inside level))
 layer_spelled N W s (layer.Byte z) h = signed_spelled w8 refl z h

@@ -10,6 +10,7 @@ mod flaw;
 mod kind;
 mod names;
 mod payload;
+mod put;
 mod room;
 mod tag;
 mod values;
