@@ -14,6 +14,7 @@ mod put;
 mod room;
 mod tag;
 mod values;
+mod write;
 
 pub use fault::NbtFault;
 pub use memory::Memory;
