@@ -10,3 +10,4 @@ pub mod TreeReads
 pub mod WrittenTags
 pub mod Fits
 pub mod Spelled
+pub mod Whole

@@ -150,3 +150,8 @@ Spells-prefix a b x y s t p q e =
     let same : (s, x) ≡ (t, y) = ok_is (s, x) (t, y) one in
     let rest : x ≡ y = ap (λ (r : Named × List ℕ). r.1) same in
     (append_cancel_right a b x (e ∙ ap (λ (part : List ℕ). b ++ part) (sym rest)), ap (λ (r : Named × List ℕ). r.0) same)
+
+pub SpellsRow-one : (depth : ℕ) (bytes : List ℕ) (r s : List Named) → SpellsRow depth r bytes → SpellsRow depth s bytes → r ≡ s
+SpellsRow-one depth bytes r s p q =
+    let one : Result (List Named) Flaw = Ok r in
+    ok_is r s (sym (whole_row-complete depth bytes r p) ∙ whole_row-complete depth bytes s q)

@@ -1,6 +1,9 @@
 //! Reading a whole input.
 
-ghost use Rattle.std.specs.Prelude.{◌≡◌, ◌<◌, ◌≤◌, ◌^◌, length};
+ghost use Rattle.std.specs.Prelude.{◌≡◌, ◌<◌, ◌≤◌, ◌^◌, List, length, Ok, IfOk};
+ghost use Rattle.nbt_tags.specs.declared.tag.Named.{Named};
+ghost use Rattle.nbt_tags.specs.Spelling.{Spells, SpellsRow, max_depth};
+ghost use Rattle.nbt_tags.specs.WellFormed.{IsWellFormed, IsWellFormedRow};
 ghost use Rattle.nbt_tags.specs.Reading.{Gives, IsAnswer, fault_of, root_at, ended, whole_root, whole_row, decoded, decoded_row};
 
 use crate::ending::Ending;
@@ -96,4 +99,41 @@ fn decoded_row(alloc: Global, bytes: &[u8], depth: usize) -> Result<Items<Named>
         Ok(row) => Ok(row),
         Err(failure) => Err(fault_of(bytes.len(), failure)),
     }
+}
+
+/// The named tag that is all of the bytes, or their first fault. The bytes are uncompressed, and the
+/// tags are at most 512 deep.
+pub fn decode(alloc: Global, bytes: &[u8]) -> Result<Named, NbtFault>
+    requires { length bytes.now < 2 ^ 32 }
+    // What is read is spelled so, by all of the bytes, and is well formed.
+    ensures found { IfOk result (λ named. Spells named bytes.now) }
+    ensures full { IfOk result (λ named. IsWellFormed named) }
+
+    // What is spelled so is read, unless an allocation is refused.
+    ensures only { (named : Named) → Spells named bytes.now → IsAnswer result (Ok named) }
+
+    // Which fault it is.
+    ensures exact { IsAnswer result (decoded bytes.now) }
+{
+    decoded(alloc, bytes)
+}
+
+/// The row of named tags that is all of the bytes, as it stands between the braces of a compound of
+/// that depth, without the byte 0 behind it; or their first fault. A byte 0 in place of a type byte is
+/// `BadType` here.
+pub fn decode_row(alloc: Global, bytes: &[u8], depth: usize) -> Result<Items<Named>, NbtFault>
+    requires small { length bytes.now < 2 ^ 32 }
+    requires within { depth ≤ max_depth }
+
+    // What is read is spelled so, by all of the bytes, and is well formed.
+    ensures found { IfOk result (λ row. SpellsRow depth row bytes.now) }
+    ensures full { IfOk result (λ row. IsWellFormedRow depth row) }
+
+    // What is spelled so is read, unless an allocation is refused.
+    ensures only { (row : List Named) → SpellsRow depth row bytes.now → IsAnswer result (Ok row) }
+
+    // Which fault it is.
+    ensures exact { IsAnswer result (decoded_row depth bytes.now) }
+{
+    decoded_row(alloc, bytes, depth)
 }
