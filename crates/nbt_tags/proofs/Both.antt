@@ -64,6 +64,6 @@ Reads-then {A} {B} {P} {Q} {read} {next} r s = record {
       let j = h.1 in
       let regrouped : front ++ rest ≡ j.front ++ (j.back ++ rest) = ap (λ (bytes : List ℕ). bytes ++ rest) j.whole ∙ append_assoc j.front j.back rest in
       let one : (read (front ++ rest) >>= λ x. next (front ++ rest) x.0 x.1) ≡ next (front ++ rest) h.0 (j.back ++ rest) =
-          ap (λ (r : Read A). r >>= λ x. next (front ++ rest) x.0 x.1) (ap read regrouped ∙ r.complete h.0 j.front (j.back ++ rest) j.first) in
+      ap (λ (r : Read A). r >>= λ x. next (front ++ rest) x.0 x.1) (ap read regrouped ∙ r.complete h.0 j.front (j.back ++ rest) j.first) in
       one ∙ (s (front ++ rest) h.0).complete y j.back rest j.second;
 }

@@ -68,10 +68,10 @@ some_is j k e = cc
 kind_step : (b n : ℕ) (j k : Kind) (rest : Option Kind) → type_byte j ≡ n → (rest ≡ Some k → type_byte k ≡ b) → cond (eqb b n) (Some j) rest ≡ Some k → type_byte k ≡ b
 kind_step b n j k rest is more e =
     let at : (t : Bool) → eqb b n ≡ t → cond t (Some j) rest ≡ Some k → type_byte k ≡ b = λ t.
-        elim t as (λ (u : Bool). eqb b n ≡ u → cond u (Some j) rest ≡ Some k → type_byte k ≡ b) [
-          | true ↦ λ yes here. ap type_byte (sym (some_is j k here)) ∙ is ∙ sym (eqb-true b n yes)
-          | false ↦ λ no there. more there
-        ] in
+    elim t as (λ (u : Bool). eqb b n ≡ u → cond u (Some j) rest ≡ Some k → type_byte k ≡ b) [
+      | true ↦ λ yes here. ap type_byte (sym (some_is j k here)) ∙ is ∙ sym (eqb-true b n yes)
+      | false ↦ λ no there. more there
+    ] in
     at (eqb b n) refl e
 
 -- the byte of a kind that a byte stands for is that byte

@@ -13,7 +13,6 @@ use Rattle.nbt_tags.specs.declared.tag.Named.{Named}
 use Rattle.nbt_tags.specs.Kinds.{tag_byte, tag_kind}
 use Rattle.nbt_tags.specs.Spelling.{Layer, Nesting, Joins, IsEach, IsNumber, IsSigned, IsCount, IsText, IsPlain, IsLayer, IsItem, IsList, IsArray, IsEntry, IsRow, IsCompound, IsPayload, nesting, max_depth, name_of, tag_of, Spells, SpellsRow}
 use Rattle.nbt_tags.specs.WellFormed.{AreBytes, IsName, AreCounted, Within, IsSound, IsSoundItem, IsSoundList, IsSoundEntry, IsSoundRow, within, IsSoundTag, IsWellFormed, IsWellFormedRow}
-
 use Rattle.nbt_tags.proofs.FieldReads.{type_byte-low}
 
 -- ---- bytes
@@ -128,7 +127,7 @@ unfolding nesting within
 nesting_fits zero = record { list = λ element items bytes h is. absurd is; compound = λ row bytes h is. absurd is }
 nesting_fits (suc levels) =
     let one : (tag : Tag) (bytes : List ℕ) → AreBytes bytes → IsPayload levels tag bytes → IsSoundTag levels tag =
-        λ tag bytes h is. layer_fits (nesting levels) (within levels) (nesting_fits levels) (out-Tag tag) bytes h is in
+    λ tag bytes h is. layer_fits (nesting levels) (within levels) (nesting_fits levels) (out-Tag tag) bytes h is in
     record { list = list_fits one; compound = compound_fits one }
 
 pub payload_fits : (levels : ℕ) (tag : Tag) (bytes : List ℕ) → AreBytes bytes → IsPayload levels tag bytes → IsSoundTag levels tag

@@ -24,14 +24,16 @@ numbers_in-each w zero bytes len = (refl, nil_from_length bytes (omega (arith, l
 numbers_in-each w (suc n) bytes len =
     let here : length (take (byte_len w) bytes) ≡ byte_len w = omega (arith, len, length-take (byte_len w) bytes) in
     let there : length (drop (byte_len w) bytes) ≡ byte_len w * n = omega (arith, len, length-drop (byte_len w) bytes) in
-    let ih = numbers_in-each w n (drop (byte_len w) bytes) there in
-    (ap suc ih.0, record {
-      front = take (byte_len w) bytes;
-      back = drop (byte_len w) bytes;
-      whole = sym (take-append-drop (byte_len w) bytes);
-      first = record { size = here; worth = refl };
-      second = ih.1;
-    })
+    let ih = numbers_in-each w n (drop (byte_len w) bytes) there in (
+      ap suc ih.0,
+      record {
+        front = take (byte_len w) bytes;
+        back = drop (byte_len w) bytes;
+        whole = sym (take-append-drop (byte_len w) bytes);
+        first = record { size = here; worth = refl };
+        second = ih.1;
+      },
+    )
 
 numbers_in-again : (w : Width) (zs : List ℤ) (bytes : List ℕ) → IsEach (IsSigned w) zs bytes → (length bytes ≡ byte_len w * length zs) × (numbers_in w (length zs) bytes ≡ zs)
 unfolding numbers_in
@@ -46,12 +48,12 @@ unfolding numbers_at
 numbers_at-reads w n =
     Reads-same
     (λ zs bytes h.
-        let each = numbers_in-each w n h.0 h.2.0 in
-        let P : List ℤ → List ℕ → Type 0 = λ xs cells. (length xs ≡ n) × IsEach (IsSigned w) xs cells in
-        subst (λ (xs : List ℤ). P xs bytes) (sym h.1) (subst (λ (cells : List ℕ). P (numbers_in w n h.0) cells) (sym h.2.1) each))
+    let each = numbers_in-each w n h.0 h.2.0 in
+    let P : List ℤ → List ℕ → Type 0 = λ xs cells. (length xs ≡ n) × IsEach (IsSigned w) xs cells in
+    subst (λ (xs : List ℤ). P xs bytes) (sym h.1) (subst (λ (cells : List ℕ). P (numbers_in w n h.0) cells) (sym h.2.1) each))
     (λ zs bytes h.
-        let again = numbers_in-again w zs bytes h.1 in
-        (bytes, sym again.1 ∙ ap (λ (m : ℕ). numbers_in w m bytes) h.0, (again.0 ∙ ap (λ (m : ℕ). byte_len w * m) h.0, refl)))
+    let again = numbers_in-again w zs bytes h.1 in
+    (bytes, sym again.1 ∙ ap (λ (m : ℕ). numbers_in w m bytes) h.0, (again.0 ∙ ap (λ (m : ℕ). byte_len w * m) h.0, refl)))
     (Reads-map (numbers_in w n) (bytes_at-reads (byte_len w * n)))
 
 -- ---- tags of one kind
@@ -79,11 +81,11 @@ pub variant-reads : {A : Type 0} {V : A → Tag} {L : A → Layer} {P : A → Li
 variant-reads {A} {V} {L} {P} kind N v there back r =
     Reads-same
     (λ tag bytes h.
-        let out : out-Tag tag ≡ L h.0 = ap out-Tag h.1 ∙ v.outs h.0 in
-        (ap layer_kind out ∙ v.has h.0, subst (λ (y : Layer). IsLayer N y bytes) (sym out) (there h.0 bytes h.2)))
+    let out : out-Tag tag ≡ L h.0 = ap out-Tag h.1 ∙ v.outs h.0 in
+    (ap layer_kind out ∙ v.has h.0, subst (λ (y : Layer). IsLayer N y bytes) (sym out) (there h.0 bytes h.2)))
     (λ tag bytes h.
-        let w = v.only (out-Tag tag) h.0 in
-        (w.0, out-Tag-same tag (V w.0) (w.1 ∙ sym (v.outs w.0)), back w.0 bytes (subst (λ (y : Layer). IsLayer N y bytes) w.1 h.1)))
+    let w = v.only (out-Tag tag) h.0 in
+    (w.0, out-Tag-same tag (V w.0) (w.1 ∙ sym (v.outs w.0)), back w.0 bytes (subst (λ (y : Layer). IsLayer N y bytes) w.1 h.1)))
     r
 
 only-Byte : (y : Layer) → layer_kind y ≡ kinds.Byte → (x : ℤ) × (y ≡ layer.Byte x)
@@ -151,11 +153,11 @@ array-reads : {A : Type 0} {P : List A → List ℕ → Type 0} (V : List A → 
 array-reads {A} {P} V next r =
     Reads-same
     (λ tag bytes h.
-        let j = h.1 in
-        (j.second.0, j.second.1, record { front = j.front; back = j.back; whole = j.whole; first = subst (λ (n : ℕ). IsCount n j.front) (sym j.second.2.0) j.first; second = j.second.2.1 }))
+    let j = h.1 in
+    (j.second.0, j.second.1, record { front = j.front; back = j.back; whole = j.whole; first = subst (λ (n : ℕ). IsCount n j.front) (sym j.second.2.0) j.first; second = j.second.2.1 }))
     (λ tag bytes h.
-        let j = h.2 in
-        (length h.0, record { front = j.front; back = j.back; whole = j.whole; first = j.first; second = (h.0, h.1, (refl, j.second)) }))
+    let j = h.2 in
+    (length h.0, record { front = j.front; back = j.back; whole = j.whole; first = j.first; second = (h.0, h.1, (refl, j.second)) }))
     (Reads-then count_at-reads (λ whole n. Reads-map V (r n)))
 
 module _ (N : Nesting) where

@@ -141,9 +141,9 @@ module _ {P : Tag → List ℕ → Type 0} {payload : Kind → List ℕ → Read
   list_in-reads =
       Reads-same
       (λ tag bytes h.
-          let j = h.1 in
-          let k = j.second.1 in
-          let i = k.second in
-          ((h.0, i.0), i.1, list_from h.0 i.0 j.second.0 bytes j.front k.front k.back (j.whole ∙ ap (λ (part : List ℕ). j.front ++ part) k.whole) j.first k.first i.2))
+      let j = h.1 in
+      let k = j.second.1 in
+      let i = k.second in
+      ((h.0, i.0), i.1, list_from h.0 i.0 j.second.0 bytes j.front k.front k.back (j.whole ∙ ap (λ (part : List ℕ). j.front ++ part) k.whole) j.first k.first i.2))
       (λ tag bytes h. list_parts h.0.0 h.0.1 tag bytes h.1 h.2)
       (Reads-then element_at-reads (λ whole element. Reads-then (signed_at-reads w32) (λ rest z. Reads-map (λ items. tags.List element items) (counted_at-reads r whole element z))))

@@ -47,14 +47,14 @@ unfolding entry_at
 entry_at-reads {P} {payload} r taken whole =
     Reads-same
     (λ entry bytes h.
-        let j = h.1 in
-        let t = j.second.0 in
-        subst (λ (e : Named). Behind taken P e bytes) (sym j.second.1)
-        (subst (λ (n : List ℕ). (taken n ≡ false) × Joins (IsText n) (P (tag_of (named h.0 t))) bytes) (sym (name_of-named h.0 t))
-        (j.first.0, record { front = j.front; back = j.back; whole = j.whole; first = j.first.1; second = subst (λ (u : Tag). P u j.back) (sym (tag_of-named h.0 t)) j.second.2 })))
+    let j = h.1 in
+    let t = j.second.0 in
+    subst (λ (e : Named). Behind taken P e bytes) (sym j.second.1)
+    (subst (λ (n : List ℕ). (taken n ≡ false) × Joins (IsText n) (P (tag_of (named h.0 t))) bytes) (sym (name_of-named h.0 t))
+    (j.first.0, record { front = j.front; back = j.back; whole = j.whole; first = j.first.1; second = subst (λ (u : Tag). P u j.back) (sym (tag_of-named h.0 t)) j.second.2 })))
     (λ entry bytes h.
-        let j = h.1 in
-        (name_of entry, record { front = j.front; back = j.back; whole = j.whole; first = (h.0, j.first); second = (tag_of entry, sym (roll-out-Named entry), j.second) }))
+    let j = h.1 in
+    (name_of entry, record { front = j.front; back = j.back; whole = j.whole; first = (h.0, j.first); second = (tag_of entry, sym (roll-out-Named entry), j.second) }))
     (Reads-then (fresh_at-reads taken whole) (λ rest name. Reads-map (named name) r))
 
 -- ---- ends of rows
@@ -194,15 +194,15 @@ module _ {P : Tag → List ℕ → Type 0} {payload : Kind → List ℕ → Read
       let kind = tag_kind (tag_of first) in
       let part = e.back ++ (each.back ++ close) in
       let regrouped : front ++ close ≡ type_byte kind ∷ part =
-          ap (λ (x : List ℕ). x ++ close) each.whole
-          ∙ append_assoc each.front each.back close
-          ∙ ap (λ (x : List ℕ). x ++ (each.back ++ close)) e.whole
-          ∙ append_assoc e.front e.back (each.back ++ close)
-          ∙ ap (λ (x : List ℕ). x ++ part) e.first in
+      ap (λ (x : List ℕ). x ++ close) each.whole
+      ∙ append_assoc each.front each.back close
+      ∙ ap (λ (x : List ℕ). x ++ (each.back ++ close)) e.whole
+      ∙ append_assoc e.front e.back (each.back ++ close)
+      ∙ ap (λ (x : List ℕ). x ++ part) e.first in
       let j = e.second in
       let read : entry_at (payload kind) taken (type_byte kind ∷ part) part ≡ Ok (first, each.back ++ close) =
-          (entry_at-reads (r kind) taken (type_byte kind ∷ part)).complete first e.back (each.back ++ close)
-          (fresh.0, record { front = j.front; back = j.back; whole = j.whole; first = j.first; second = (refl, j.second) }) in
+      (entry_at-reads (r kind) taken (type_byte kind ∷ part)).complete first e.back (each.back ++ close)
+      (fresh.0, record { front = j.front; back = j.back; whole = j.whole; first = j.first; second = (refl, j.second) }) in
       let ih = row_at-complete steps (also (name_of first) taken) others each.back close rest each.second fresh.1 closes (omega (arith, lt)) in
       ap (λ (bytes : List ℕ). row_at payload ending (suc steps) taken bytes) regrouped ∙ rw (next_at-goes ending kind part, read, ih) refl
 

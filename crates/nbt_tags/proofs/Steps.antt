@@ -56,7 +56,7 @@ module _ (payload : Kind → List ℕ → Read Tag) (ending : Ending) (front : L
   row_at-more kind after first rest lt next read so_far =
       let k : count - i ≡ suc (count - (i + 1)) = omega arith in
       let one : with_front front (row_at payload ending (count - i) taken bytes) ≡ with_front (front ++ first ∷ []) (row_at payload ending (count - (i + 1)) (also (name_of first) taken) rest) =
-          rw (k, next, read) (regroup front first (row_at payload ending (count - (i + 1)) (also (name_of first) taken) rest)) in
+      rw (k, next, read) (regroup front first (row_at payload ending (count - (i + 1)) (also (name_of first) taken) rest)) in
       sym one ∙ so_far
 
   pub row_at-ends : (after : List ℕ) → i < count → next_at ending bytes ≡ Ok (None, after)

@@ -46,5 +46,5 @@ pub is_taken-also : (old new : BTreeSet (Bor (List ℕ))) (name : List ℕ)
     → is_taken new ≡ also name (is_taken old)
 is_taken-also old new name updates =
     fun_ext (λ q.
-        let key : Bor (List ℕ) = record { ref_ptr = (0, 0); now = q } in
-        updates key ∙ cond_or (is_eq (slice_cmp nat_cmp name q)) (is_taken old q) ∙ ap (λ (b : Bool). b || is_taken old q) (is_eq-slice_cmp name q))
+    let key : Bor (List ℕ) = record { ref_ptr = (0, 0); now = q } in
+    updates key ∙ cond_or (is_eq (slice_cmp nat_cmp name q)) (is_taken old q) ∙ ap (λ (b : Bool). b || is_taken old q) (is_eq-slice_cmp name q))

@@ -31,7 +31,7 @@ module _ {P : Tag → List ℕ → Type 0} {payload : Kind → List ℕ → Read
         };
     complete = λ row front rest j.
         let regrouped : front ++ rest ≡ j.front ++ (0 ∷ rest) =
-            ap (λ (part : List ℕ). part ++ rest) j.whole ∙ append_assoc j.front j.back rest ∙ ap (λ (part : List ℕ). j.front ++ (part ++ rest)) j.second in
+        ap (λ (part : List ℕ). part ++ rest) j.whole ∙ append_assoc j.front j.back rest ∙ ap (λ (part : List ℕ). j.front ++ (part ++ rest)) j.second in
         let lt : length row < length (front ++ rest) + 1 = omega (arith, length-IsEach P row j.front j.first.entries, ap length regrouped, length-append j.front (0 ∷ rest)) in
         ap (λ (part : List ℕ). row_at payload endings.Zero (length (front ++ rest) + 1) none_taken part) regrouped
         ∙ row_at-complete r endings.Zero (length (front ++ rest) + 1) none_taken row j.front (0 ∷ rest) rest j.first.entries j.first.distinct refl lt;
@@ -88,18 +88,18 @@ unfolding root_at
 root_at-reads =
     Reads-same
     (λ entry bytes h.
-        let j = h.1 in
-        let k = j.second.1 in
-        record {
-          front = j.front;
-          back = j.back;
-          whole = j.whole;
-          first = j.first ∙ ap (λ (kind : Kind). type_byte kind ∷ []) (sym k.second.0);
-          second = record { front = k.front; back = k.back; whole = k.whole; first = k.first; second = k.second.1 };
-        })
+    let j = h.1 in
+    let k = j.second.1 in
+    record {
+      front = j.front;
+      back = j.back;
+      whole = j.whole;
+      first = j.first ∙ ap (λ (kind : Kind). type_byte kind ∷ []) (sym k.second.0);
+      second = record { front = k.front; back = k.back; whole = k.whole; first = k.first; second = k.second.1 };
+    })
     (λ entry bytes h.
-        let k = h.second in
-        (tag_kind (tag_of entry), record { front = h.front; back = h.back; whole = h.whole; first = h.first; second = (refl, record { front = k.front; back = k.back; whole = k.whole; first = k.first; second = (refl, k.second) }) }))
+    let k = h.second in
+    (tag_kind (tag_of entry), record { front = h.front; back = h.back; whole = h.whole; first = h.first; second = (refl, record { front = k.front; back = k.back; whole = k.whole; first = k.first; second = (refl, k.second) }) }))
     (Reads-then kind_at-reads (λ whole kind. entry_at-reads (payload_at-reads max_depth kind) none_taken whole))
 
 ended_ok : (x : Named) (rest : List ℕ) (y : Named) → ended x rest ≡ Ok y → (rest ≡ []) × (x ≡ y)
@@ -138,8 +138,8 @@ whole_row-complete depth bytes row h =
     let P = IsPayload (max_depth - depth) in
     let lt : length row < length bytes + 1 = omega (arith, length-IsEach P row bytes h.entries) in
     let read : whole_row_at (payload_at (max_depth - depth)) endings.Input bytes ≡ Ok (row, []) =
-        ap (λ (part : List ℕ). row_at (payload_at (max_depth - depth)) endings.Input (length bytes + 1) none_taken part) (sym (append-nil bytes))
-        ∙ row_at-complete (payload_at-reads (max_depth - depth)) endings.Input (length bytes + 1) none_taken row bytes [] [] h.entries h.distinct (refl, refl) lt in
+    ap (λ (part : List ℕ). row_at (payload_at (max_depth - depth)) endings.Input (length bytes + 1) none_taken part) (sym (append-nil bytes))
+    ∙ row_at-complete (payload_at-reads (max_depth - depth)) endings.Input (length bytes + 1) none_taken row bytes [] [] h.entries h.distinct (refl, refl) lt in
     rw read refl
 
 -- ---- no spelling begins another

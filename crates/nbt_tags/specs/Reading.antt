@@ -277,7 +277,7 @@ placed size flaw = elim flaw.cause [
   | Duplicate ↦ faults.Duplicate (size - flaw.left)
   | Deep ↦ faults.Deep (size - flaw.left)
   | Trailing ↦ faults.Trailing (size - flaw.left)
-  ]
+]
 
 -- the fault of a reader that failed, in bytes of that length
 abbrev pub fault_of : ℕ → Failure → NbtFault

@@ -4,9 +4,7 @@ ghost use Rattle.std.specs.Prelude.{◌≡◌, ◌≤◌, ◌<◌, ◌*◌, ◌^
 ghost use Rattle.std.specs.Int.{w8, w16, w32, w64};
 ghost use Rattle.nbt_tags.specs.Reading.{Gives, numbers_in, numbers_at, byte_array_at, string_at, int_array_at, long_array_at, signed_tag, bits_tag};
 
-use crate::fields::{
-    bytes_at, count_at, i8_at, i16_at, i32_at, i64_at, text_at, u32_at, u64_at,
-};
+use crate::fields::{bytes_at, count_at, i8_at, i16_at, i32_at, i64_at, text_at, u32_at, u64_at};
 use crate::flaw::Failure;
 use crate::room::with_room;
 use crate::tag::Tag;

@@ -17,5 +17,4 @@ pub fn round_trip()
     // The same of rows, each of which is all of its bytes.
     ensures one_row { (depth : ℕ) (bytes : List ℕ) (r s : List Named) → SpellsRow depth r bytes → SpellsRow depth s bytes → r ≡ s }
     ensures row_spelled { (depth : ℕ) (row : List Named) → IsWellFormedRow depth row → SpellsRow depth row (written_row row) }
-{
-}
+{}
