@@ -10,7 +10,7 @@ use Rattle.nbt_tags.specs.declared.kind.Kind.{Kind}
 use Rattle.nbt_tags.specs.declared.kind.Kind.TheVariants as kinds
 use Rattle.nbt_tags.specs.Kinds.{type_byte, kind_of}
 use Rattle.nbt_tags.specs.Spelling.{Joins, IsEach, IsNumber, IsSigned, IsCount, IsText, IsPlain}
-use Rattle.nbt_tags.specs.Reading.{Read, ◌>>=◌, flaw_at, bytes_at, number_at, signed_at, text_at, kind_at, element_at, natural_count, count_at, numbers_in, numbers_at}
+use Rattle.nbt_tags.specs.Reading.{Read, ◌>>=◌, flaw_at, bytes_at, number_at, signed_at, text_at, known_kind, kind_at, element_at, natural_count, count_at, numbers_in, numbers_at}
 use Rattle.nbt_tags.proofs.Both.{Found, Reads, Reads-same, Reads-map, Reads-then, ok_is}
 
 -- a test that did not fail
@@ -126,10 +126,7 @@ type_byte-low kinds.Compound = omega arith
 type_byte-low kinds.IntArray = omega arith
 type_byte-low kinds.LongArray = omega arith
 
-abbrev kind_or : Option Kind → List ℕ → ℕ → Read Kind
-kind_or o rest byte = elim o [ None ↦ Err (flaw_at BadType (byte ∷ rest)) | Some kind ↦ Ok (kind, rest) ]
-
-kind_at-cons : (o : Option Kind) (byte : ℕ) (bytes : List ℕ) (k : Kind) (rest : List ℕ) → kind_of byte ≡ o → kind_or o bytes byte ≡ Ok (k, rest) → Found (λ kind. IsPlain (type_byte kind)) k (byte ∷ bytes) rest
+kind_at-cons : (o : Option Kind) (byte : ℕ) (bytes : List ℕ) (k : Kind) (rest : List ℕ) → kind_of byte ≡ o → known_kind (byte ∷ bytes) o bytes ≡ Ok (k, rest) → Found (λ kind. IsPlain (type_byte kind)) k (byte ∷ bytes) rest
 kind_at-cons None byte bytes k rest is e = absurd cc
 kind_at-cons (Some j) byte bytes k rest is e =
     let same : (j, bytes) ≡ (k, rest) = ok_is (j, bytes) (k, rest) e in
@@ -142,7 +139,7 @@ kind_at-sound (byte ∷ bytes) k rest e = kind_at-cons (kind_of byte) byte bytes
 
 pub kind_at-again : (k : Kind) (rest : List ℕ) → kind_at (type_byte k ∷ rest) ≡ Ok (k, rest)
 unfolding kind_at
-kind_at-again k rest = ap (λ (o : Option Kind). kind_or o rest (type_byte k)) (kind_of-type_byte k)
+kind_at-again k rest = ap (λ (o : Option Kind). known_kind (type_byte k ∷ rest) o rest) (kind_of-type_byte k)
 
 pub kind_at-reads : Reads (λ kind. IsPlain (type_byte kind)) kind_at
 unfolding kind_at

@@ -11,3 +11,4 @@ pub mod WrittenTags
 pub mod Fits
 pub mod Spelled
 pub mod Whole
+pub mod RowSteps

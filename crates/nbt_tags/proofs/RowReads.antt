@@ -78,7 +78,7 @@ kind_next bytes next after e =
     (b.0.0, ap (λ (p : Option Kind × List ℕ). p.0) (sym same), f.whole ∙ ap (λ (part : List ℕ). part ++ b.0.1) f.holds ∙ ap (λ (p : Option Kind × List ℕ). type_byte b.0.0 ∷ p.1) same)
 
 -- what comes next is the end, or a type byte
-abbrev IsNext : Ending → List ℕ → Option Kind → List ℕ → Type 0
+abbrev pub IsNext : Ending → List ℕ → Option Kind → List ℕ → Type 0
 IsNext ending bytes None after = Closes ending bytes after
 IsNext ending bytes (Some kind) after = bytes ≡ type_byte kind ∷ after
 
@@ -174,7 +174,7 @@ module _ {P : Tag → List ℕ → Type 0} {payload : Kind → List ℕ → Read
       let c = bind_ok (others (also (name_of b.0.0) taken) b.0.1) (λ m. Ok (b.0.0 ∷ m.0, m.1)) (row, rest) b.2 in
       let f = (entry_at-reads (r kind) taken bytes).sound after b.0.0 b.0.1 b.1 in
       let found = more (also (name_of b.0.0) taken) b.0.1 c.0.0 c.0.1 c.1 in
-      subst (λ (p : List Named × List ℕ). RowFound P ending taken p.0 bytes p.1) (ok_is (got_row (b.0.0 ∷ c.0.0) c.0.1) (got_row row rest) c.2)
+      subst (λ (p : List Named × List ℕ). RowFound P ending taken p.0 bytes p.1) {x = got_row (b.0.0 ∷ c.0.0) c.0.1} (ok_is (got_row (b.0.0 ∷ c.0.0) c.0.1) (got_row row rest) c.2)
       (row_more taken kind bytes after b.0.1 c.0.1 b.0.0 c.0.0 is f found)
 
   pub row_at-sound : (steps : ℕ) (taken : List ℕ → Bool) (bytes : List ℕ) (row : List Named) (rest : List ℕ) → row_at payload ending steps taken bytes ≡ Ok (row, rest) → RowFound P ending taken row bytes rest

@@ -55,10 +55,15 @@ text_at bytes = do
   size ← number_at w16 bytes
   bytes_at size.0 size.1
 
+-- the kind of a type byte that is the first of the bytes, if it stands for one
+abbrev pub known_kind : List ℕ → Option Kind → List ℕ → Read Kind
+known_kind bytes None rest = Err (flaw_at BadType bytes)
+known_kind bytes (Some kind) rest = Ok (kind, rest)
+
 -- the type byte of a tag
 unfoldable pub kind_at : List ℕ → Read Kind
 kind_at [] = Err (flaw_at Short [])
-kind_at (byte ∷ rest) = elim (kind_of byte) [ None ↦ Err (flaw_at BadType (byte ∷ rest)) | Some kind ↦ Ok (kind, rest) ]
+kind_at (byte ∷ rest) = known_kind (byte ∷ rest) (kind_of byte) rest
 
 -- the element type of a list
 unfoldable pub element_at : List ℕ → Read ℕ
@@ -268,16 +273,18 @@ whole_row depth bytes = do
 
 -- ---- faults
 
+-- the fault of a cause at a place
+abbrev pub fault_at : Cause → ℕ → NbtFault
+fault_at Short at = faults.Short at
+fault_at BadType at = faults.BadType at
+fault_at BadCount at = faults.BadCount at
+fault_at Duplicate at = faults.Duplicate at
+fault_at Deep at = faults.Deep at
+fault_at Trailing at = faults.Trailing at
+
 -- a fault by its place, in bytes of that length
 abbrev pub placed : ℕ → Flaw → NbtFault
-placed size flaw = elim flaw.cause [
-  | Short ↦ faults.Short (size - flaw.left)
-  | BadType ↦ faults.BadType (size - flaw.left)
-  | BadCount ↦ faults.BadCount (size - flaw.left)
-  | Duplicate ↦ faults.Duplicate (size - flaw.left)
-  | Deep ↦ faults.Deep (size - flaw.left)
-  | Trailing ↦ faults.Trailing (size - flaw.left)
-]
+placed size flaw = fault_at flaw.cause (size - flaw.left)
 
 -- the fault of a reader that failed, in bytes of that length
 abbrev pub fault_of : ℕ → Failure → NbtFault

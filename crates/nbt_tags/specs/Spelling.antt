@@ -1,5 +1,6 @@
 -- Which bytes spell which named tag, from the tree to its bytes, by cases on the kind of each tag.
--- The format is NBT of Minecraft's Java edition, without compression. Numbers are big-endian.
+-- The format is NBT, the named binary tags of Minecraft's Java edition (minecraft.wiki, "NBT format"),
+-- without compression. Numbers are big-endian, and names and strings are raw bytes.
 use Rattle.std.specs.Prelude.{◌≡◌, ℕ, zero, suc, ◌-◌, ◌≤◌, ℤ, pos, ◌≤ℤ◌, Bool, false, ◌||◌, List, [], ◌∷◌, ◌++◌, length, map}
 use Rattle.std.specs.Int.{Width, w8, w16, w32, w64, byte_len, cast_signed}
 use Rattle.std.specs.Str.{bytes_eq}

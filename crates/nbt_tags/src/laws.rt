@@ -1,8 +1,10 @@
 //! Laws over the spellings of all named tags.
 
-ghost use Rattle.std.specs.Prelude.{◌≡◌, ◌++◌, ℕ, List};
+ghost use Rattle.std.specs.Prelude.{◌≡◌, ◌<◌, ◌++◌, ℕ, List, length};
+ghost use Rattle.nbt_tags.specs.declared.ending.Ending.{Ending};
 ghost use Rattle.nbt_tags.specs.declared.tag.Named.{Named};
-ghost use Rattle.nbt_tags.specs.Spelling.{Spells, SpellsRow};
+ghost use Rattle.nbt_tags.specs.Reading.{row_at, whole_row_at, payload_at};
+ghost use Rattle.nbt_tags.specs.Spelling.{Spells, SpellsRow, none_taken};
 ghost use Rattle.nbt_tags.specs.WellFormed.{IsWellFormed, IsWellFormedRow};
 ghost use Rattle.nbt_tags.specs.Written.{written, written_row};
 
@@ -17,4 +19,10 @@ pub fn round_trip()
     // The same of rows, each of which is all of its bytes.
     ensures one_row { (depth : ℕ) (bytes : List ℕ) (r s : List Named) → SpellsRow depth r bytes → SpellsRow depth s bytes → r ≡ s }
     ensures row_spelled { (depth : ℕ) (row : List Named) → IsWellFormedRow depth row → SpellsRow depth row (written_row row) }
+{}
+
+/// The definition of reading a row goes by steps. How many it has plays no role, if they are more than
+/// the bytes. The function does nothing: its contract is the law.
+pub fn steps_are_enough()
+    ensures { (levels steps : ℕ) (ending : Ending) (bytes : List ℕ) → length bytes < steps → row_at (payload_at levels) ending steps none_taken bytes ≡ whole_row_at (payload_at levels) ending bytes }
 {}

@@ -1,7 +1,7 @@
-//! Named binary tags (NBT) of Minecraft's Java edition, uncompressed, both ways. It serves the readers
-//! and writers of world files, whose bytes may be hostile: `decode` gives exactly the tag that the bytes
-//! spell, or exactly the first fault with its place, and `encode` the one written spelling. Nothing is
-//! read of bytes that spell nothing, and nothing that is spelled is refused.
+//! Named binary tags (NBT) of Minecraft's Java edition, uncompressed, both ways. The crate serves
+//! readers and writers of world files, whose bytes may be hostile. `decode` gives exactly the tag that
+//! the bytes spell, or else exactly their first fault and its place, and `encode` gives the one written
+//! spelling of a tag, unless an allocation is refused.
 #![tactic(auto)]
 
 mod arrays;
@@ -22,7 +22,7 @@ mod write;
 mod writing;
 
 pub use fault::NbtFault;
-pub use laws::round_trip;
+pub use laws::{round_trip, steps_are_enough};
 pub use memory::Memory;
 pub use reading::{decode, decode_row};
 pub use room::room_for;
