@@ -1,5 +1,5 @@
 -- A reader and a relation that say the same: what is read is spelled so, and what is spelled so is read.
-use Rattle.std.proofs.Common.{◌≡◌, ℕ, List, [], ◌∷◌, ◌++◌, Result, Ok, Err, refl, sym, ap, subst, ◌∙◌, append_assoc}
+use Rattle.std.proofs.Common.{◌≡◌, ℕ, List, ◌++◌, Result, Ok, Err, refl, sym, ap, ◌∙◌, append_assoc}
 use Rattle.nbt_tags.specs.declared.flaw.Flaw.{Flaw}
 use Rattle.nbt_tags.specs.Spelling.{Joins}
 use Rattle.nbt_tags.specs.Reading.{Read, ◌>>=◌}

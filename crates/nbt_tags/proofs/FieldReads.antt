@@ -1,16 +1,16 @@
 -- The fields: what is read is spelled so, and what is spelled so is read.
-use Rattle.std.proofs.Common.{◌≡◌, ℕ, zero, suc, ◌+◌, ◌-◌, ◌*◌, ◌<◌, ◌≤◌, ℤ, pos, negsuc, Bool, true, false, cond, eqb, ltb, List, [], ◌∷◌, ◌++◌, length, take, drop, Option, Some, None, Result, Ok, Err, refl, sym, ap, subst, ◌∙◌, append_assoc, arith}
-use Rattle.std.proofs.lemmas.Bool.{ltb-false, le-ltb, lt-ltb, eqb-true}
-use Rattle.std.proofs.lemmas.List.{take_at, drop_at, take-append-drop, length-append, length-take, append-nil, nil_from_length, take_all}
+use Rattle.std.proofs.Common.{◌≡◌, ℕ, ◌≤◌, ℤ, pos, negsuc, Bool, true, false, cond, eqb, ltb, List, [], ◌∷◌, ◌++◌, length, take, drop, Option, Some, None, Ok, Err, refl, sym, ap, subst, ◌∙◌, arith}
+use Rattle.std.proofs.lemmas.Bool.{ltb-false, le-ltb, eqb-true}
+use Rattle.std.proofs.lemmas.List.{take_at, drop_at, take-append-drop, length-append, length-take, append-nil}
 use Rattle.std.specs.Int.{Width, w16, w32, byte_len, cast_signed}
 use Rattle.byteorder.specs.Endian.{big_number}
-use Rattle.nbt_tags.specs.declared.flaw.Cause.TheVariants.{Short, BadType, BadCount}
+use Rattle.nbt_tags.specs.declared.flaw.Cause.TheVariants.{Short, BadType}
 use Rattle.nbt_tags.specs.declared.flaw.Flaw.{Flaw}
 use Rattle.nbt_tags.specs.declared.kind.Kind.{Kind}
 use Rattle.nbt_tags.specs.declared.kind.Kind.TheVariants as kinds
 use Rattle.nbt_tags.specs.Kinds.{type_byte, kind_of}
-use Rattle.nbt_tags.specs.Spelling.{Joins, IsEach, IsNumber, IsSigned, IsCount, IsText, IsPlain}
-use Rattle.nbt_tags.specs.Reading.{Read, ◌>>=◌, flaw_at, bytes_at, number_at, signed_at, text_at, known_kind, kind_at, element_at, natural_count, count_at, numbers_in, numbers_at}
+use Rattle.nbt_tags.specs.Spelling.{IsNumber, IsSigned, IsCount, IsText, IsPlain}
+use Rattle.nbt_tags.specs.Reading.{flaw_at, bytes_at, number_at, signed_at, text_at, known_kind, kind_at, element_at, natural_count, count_at}
 use Rattle.nbt_tags.proofs.Both.{Found, Reads, Reads-same, Reads-map, Reads-then, ok_is}
 
 -- a test that did not fail

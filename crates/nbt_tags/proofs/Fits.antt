@@ -1,8 +1,7 @@
 -- A tag that bytes spell is well formed.
-use Rattle.std.proofs.Common.{◌≡◌, ℕ, zero, suc, ◌+◌, ◌-◌, ◌^◌, ◌<◌, ◌≤◌, ℤ, pos, FitsSigned, Bool, List, [], ◌∷◌, ◌++◌, length, get_or, refl, sym, ap, subst, ◌∙◌, arith}
-use Rattle.std.proofs.lemmas.List.{nil_from_length}
+use Rattle.std.proofs.Common.{◌≡◌, ℕ, zero, suc, ◌-◌, ◌^◌, ◌<◌, ◌≤◌, ℤ, pos, FitsSigned, List, [], ◌∷◌, ◌++◌, length, get_or, refl, subst, arith}
 use Rattle.std.proofs.Math.Facts.{sfits_to_z, Fits-of_lt}
-use Rattle.std.specs.Int.{Width, w8, w16, w32, w64, byte_len, cast_signed}
+use Rattle.std.specs.Int.{Width, w8, w16, w32, w64, byte_len}
 use Rattle.std.specs.List.{AllByRecursion}
 use Rattle.byteorder.specs.Endian.{big_number}
 use Rattle.byteorder.specs.Numbers.{big_from-lt}
@@ -10,8 +9,8 @@ use mir.Val.{bits}
 use Rattle.nbt_tags.specs.declared.tag.Tag.{Tag, out-Tag}
 use Rattle.nbt_tags.specs.declared.tag.Tag.TheOpen as layer
 use Rattle.nbt_tags.specs.declared.tag.Named.{Named}
-use Rattle.nbt_tags.specs.Kinds.{tag_byte, tag_kind}
-use Rattle.nbt_tags.specs.Spelling.{Layer, Nesting, Joins, IsEach, IsNumber, IsSigned, IsCount, IsText, IsPlain, IsLayer, IsItem, IsList, IsArray, IsEntry, IsRow, IsCompound, IsPayload, nesting, max_depth, name_of, tag_of, Spells, SpellsRow}
+use Rattle.nbt_tags.specs.Kinds.{tag_kind}
+use Rattle.nbt_tags.specs.Spelling.{Layer, Nesting, Joins, IsEach, IsNumber, IsSigned, IsCount, IsText, IsLayer, IsItem, IsList, IsArray, IsEntry, IsRow, IsCompound, IsPayload, nesting, max_depth, name_of, tag_of, Spells, SpellsRow}
 use Rattle.nbt_tags.specs.WellFormed.{AreBytes, IsName, AreCounted, Within, IsSound, IsSoundItem, IsSoundList, IsSoundEntry, IsSoundRow, within, IsSoundTag, IsWellFormed, IsWellFormedRow}
 use Rattle.nbt_tags.proofs.FieldReads.{type_byte-low}
 

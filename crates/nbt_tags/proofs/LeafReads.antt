@@ -1,8 +1,7 @@
 -- The payloads that hold no tags: what is read is spelled so, and what is spelled so is read.
-use Rattle.std.proofs.Common.{◌≡◌, ℕ, zero, suc, ◌+◌, ◌*◌, ◌≤◌, ℤ, List, [], ◌∷◌, ◌++◌, length, take, drop, Result, Ok, Err, refl, sym, ap, subst, ◌∙◌, arith}
+use Rattle.std.proofs.Common.{◌≡◌, ℕ, zero, suc, ◌*◌, ℤ, List, [], ◌∷◌, length, take, drop, Ok, refl, sym, ap, subst, ◌∙◌, arith}
 use Rattle.std.proofs.lemmas.List.{take_at, drop_at, take-append-drop, length-append, length-take, length-drop, nil_from_length}
-use Rattle.std.specs.Int.{Width, w8, w16, w32, w64, byte_len, cast_signed}
-use Rattle.byteorder.specs.Endian.{big_number}
+use Rattle.std.specs.Int.{Width, w8, w16, w32, w64, byte_len}
 use Rattle.nbt_tags.specs.declared.kind.Kind.{Kind}
 use Rattle.nbt_tags.specs.declared.kind.Kind.TheVariants as kinds
 use Rattle.nbt_tags.specs.declared.tag.Tag.{Tag, out-Tag, roll-Tag, roll-out-Tag}
@@ -11,9 +10,9 @@ use Rattle.nbt_tags.specs.declared.tag.Tag.TheVariants as tags
 use Rattle.nbt_tags.specs.declared.tag.Tag.TheVariants.{outs-Byte, outs-Short, outs-Int, outs-Long, outs-Float, outs-Double, outs-ByteArray, outs-Str, outs-List, outs-Compound, outs-IntArray, outs-LongArray}
 use Rattle.nbt_tags.specs.declared.tag.Named.{Named}
 use Rattle.nbt_tags.specs.Kinds.{layer_kind, tag_kind}
-use Rattle.nbt_tags.specs.Spelling.{Layer, Nesting, Joins, IsEach, IsNumber, IsSigned, IsCount, IsText, IsLayer}
+use Rattle.nbt_tags.specs.Spelling.{Layer, Nesting, Joins, IsEach, IsSigned, IsCount, IsLayer}
 use Rattle.nbt_tags.specs.Reading.{Read, ◌>>=◌, signed_tag, bits_tag, count_at, bytes_at, numbers_in, numbers_at, byte_array_at, string_at, int_array_at, long_array_at}
-use Rattle.nbt_tags.proofs.Both.{Found, Reads, Reads-same, Reads-map, Reads-then}
+use Rattle.nbt_tags.proofs.Both.{Reads, Reads-same, Reads-map, Reads-then}
 use Rattle.nbt_tags.proofs.FieldReads.{bytes_at-reads, number_at-reads, signed_at-reads, text_at-reads, count_at-reads}
 
 -- ---- numbers of an array

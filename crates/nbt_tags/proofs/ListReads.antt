@@ -1,15 +1,14 @@
 -- Lists: what is read is spelled so, and what is spelled so is read.
-use Rattle.std.proofs.Common.{◌≡◌, ℕ, zero, suc, ◌+◌, ◌≤◌, ℤ, pos, negsuc, ◌≤ℤ◌, List, [], ◌∷◌, ◌++◌, length, Option, Some, None, Result, Ok, Err, refl, sym, ap, subst, ◌∙◌, append_assoc, arith}
+use Rattle.std.proofs.Common.{◌≡◌, ℕ, zero, suc, ◌≤◌, ℤ, pos, negsuc, ◌≤ℤ◌, List, [], ◌∷◌, ◌++◌, length, Option, Some, None, Ok, refl, sym, ap, subst, ◌∙◌, arith}
 use Rattle.std.proofs.lemmas.Int.{ints}
 use Rattle.std.proofs.lemmas.List.{append-nil}
 use Rattle.std.specs.Int.{w32}
 use Rattle.nbt_tags.specs.declared.kind.Kind.{Kind}
-use Rattle.nbt_tags.specs.declared.kind.Kind.TheVariants as kinds
 use Rattle.nbt_tags.specs.declared.tag.Tag.{Tag}
 use Rattle.nbt_tags.specs.declared.tag.Tag.TheVariants as tags
-use Rattle.nbt_tags.specs.Kinds.{type_byte, kind_of, tag_kind, tag_byte}
-use Rattle.nbt_tags.specs.Spelling.{Joins, IsEach, IsSigned, IsCount, IsPlain, IsItem, IsNoCount, IsList, IsArray}
-use Rattle.nbt_tags.specs.Reading.{Read, ◌>>=◌, signed_at, element_at, items_at, items_of, counted_at, list_in}
+use Rattle.nbt_tags.specs.Kinds.{type_byte, kind_of, tag_kind}
+use Rattle.nbt_tags.specs.Spelling.{Joins, IsEach, IsSigned, IsItem, IsList}
+use Rattle.nbt_tags.specs.Reading.{Read, items_at, items_of, counted_at, list_in}
 use Rattle.nbt_tags.proofs.Both.{Found, Reads, Reads-same, Reads-map, Reads-then, ok_is}
 use Rattle.nbt_tags.proofs.FieldReads.{signed_at-reads, element_at-reads, IsElement, kind_of-type_byte, type_byte-kind_of, type_byte-same, type_byte-low}
 use Rattle.nbt_tags.proofs.LeafReads.{Made, OfKind}

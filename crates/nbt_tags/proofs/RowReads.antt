@@ -1,20 +1,19 @@
 -- Rows of named tags and compounds: what is read is spelled so, and what is spelled so is read.
-use Rattle.std.proofs.Common.{◌≡◌, ℕ, zero, suc, ◌+◌, ◌≤◌, ◌<◌, Bool, true, false, cond, List, [], ◌∷◌, ◌++◌, length, map, Option, Some, None, Result, Ok, Err, refl, sym, ap, subst, ◌∙◌, append_assoc, arith}
-use Rattle.std.proofs.lemmas.List.{append-nil, length-append}
+use Rattle.std.proofs.Common.{◌≡◌, ℕ, zero, suc, ◌≤◌, ◌<◌, Bool, false, cond, List, [], ◌∷◌, ◌++◌, length, Option, Some, None, Ok, Err, refl, sym, ap, subst, ◌∙◌, append_assoc, arith}
+use Rattle.std.proofs.lemmas.List.{length-append}
 use Rattle.nbt_tags.specs.declared.ending.Ending.{Ending}
 use Rattle.nbt_tags.specs.declared.ending.Ending.TheVariants as endings
 use Rattle.nbt_tags.specs.declared.flaw.Cause.TheVariants.{Duplicate}
 use Rattle.nbt_tags.specs.declared.kind.Kind.{Kind}
 use Rattle.nbt_tags.specs.declared.kind.Kind.TheVariants as kinds
 use Rattle.nbt_tags.specs.declared.tag.Tag.{Tag}
-use Rattle.nbt_tags.specs.declared.tag.Tag.TheVariants as tags
-use Rattle.nbt_tags.specs.declared.tag.Named.{Named, Named-F, out-Named, roll-Named, out-roll-Named, roll-out-Named}
-use Rattle.nbt_tags.specs.Kinds.{type_byte, kind_of, tag_kind, tag_byte}
-use Rattle.nbt_tags.specs.Spelling.{Joins, IsEach, IsPlain, IsText, IsEntry, IsRow, IsCompound, AreFresh, also, none_taken, name_of, tag_of, names_of}
-use Rattle.nbt_tags.specs.Reading.{Read, ◌>>=◌, flaw_at, kind_at, text_at, next_at, fresh_at, named, entry_at, row_from, row_at, whole_row_at, compound_in}
+use Rattle.nbt_tags.specs.declared.tag.Named.{Named, Named-F, out-roll-Named, roll-out-Named}
+use Rattle.nbt_tags.specs.Kinds.{type_byte, tag_kind, tag_byte}
+use Rattle.nbt_tags.specs.Spelling.{Joins, IsEach, IsText, IsEntry, AreFresh, also, name_of, tag_of, names_of}
+use Rattle.nbt_tags.specs.Reading.{Read, ◌>>=◌, flaw_at, kind_at, text_at, next_at, fresh_at, named, entry_at, row_from, row_at}
 use Rattle.nbt_tags.proofs.Both.{Found, Reads, Reads-same, Reads-map, Reads-then, bind_ok, ok_is}
 use Rattle.nbt_tags.proofs.FieldReads.{guard_ok, text_at-reads, kind_at-reads, kind_at-again}
-use Rattle.nbt_tags.proofs.LeafReads.{Made, OfKind}
+use Rattle.nbt_tags.proofs.LeafReads.{OfKind}
 
 -- ---- named tags
 

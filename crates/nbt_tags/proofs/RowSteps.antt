@@ -1,13 +1,12 @@
 -- How many steps a row may take plays no role, if they are more than its bytes.
-use Rattle.std.proofs.Common.{◌≡◌, ℕ, zero, suc, ◌+◌, ◌≤◌, ◌<◌, Bool, List, [], ◌∷◌, ◌++◌, length, Option, Some, None, Result, Ok, Err, refl, ap, arith}
+use Rattle.std.proofs.Common.{◌≡◌, ℕ, zero, suc, ◌+◌, ◌<◌, Bool, List, ◌∷◌, length, Option, Some, None, Result, Ok, Err, refl, ap, arith}
 use Rattle.std.proofs.lemmas.List.{length-append}
 use Rattle.nbt_tags.specs.declared.ending.Ending.{Ending}
 use Rattle.nbt_tags.specs.declared.flaw.Flaw.{Flaw}
 use Rattle.nbt_tags.specs.declared.kind.Kind.{Kind}
 use Rattle.nbt_tags.specs.declared.tag.Tag.{Tag}
 use Rattle.nbt_tags.specs.declared.tag.Named.{Named}
-use Rattle.nbt_tags.specs.Kinds.{type_byte}
-use Rattle.nbt_tags.specs.Spelling.{IsPayload, also, name_of, none_taken}
+use Rattle.nbt_tags.specs.Spelling.{also, name_of, none_taken}
 use Rattle.nbt_tags.specs.Reading.{Read, ◌>>=◌, next_at, entry_at, row_from, row_at, whole_row_at, payload_at}
 use Rattle.nbt_tags.proofs.Both.{Reads}
 use Rattle.nbt_tags.proofs.LeafReads.{OfKind}

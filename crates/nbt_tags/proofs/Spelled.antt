@@ -1,7 +1,7 @@
 -- What is written for a well-formed tag spells it.
-use Rattle.std.proofs.Common.{◌≡◌, ℕ, zero, suc, ◌+◌, ◌-◌, ◌^◌, ◌<◌, ◌≤◌, ℤ, pos, FitsSigned, Bool, List, [], ◌∷◌, ◌++◌, length, map, refl, sym, ap, subst, ◌∙◌, arith}
+use Rattle.std.proofs.Common.{◌≡◌, ℕ, zero, suc, ◌-◌, ◌^◌, ◌<◌, ℤ, pos, FitsSigned, List, [], ◌∷◌, ◌++◌, length, refl, sym, ap, subst, ◌∙◌, arith}
 use Rattle.std.proofs.lemmas.Int.{ints}
-use Rattle.std.proofs.lemmas.List.{append-nil, length-map}
+use Rattle.std.proofs.lemmas.List.{append-nil}
 use Rattle.std.proofs.Math.Facts.{to_z-of_z, to_z_pos, Fits-of_z}
 use Rattle.std.specs.Int.{Width, w8, w16, w32, w64, byte_len, cast_signed, cast_unsigned}
 use Rattle.std.specs.List.{AllByRecursion, flat_map}
@@ -11,10 +11,9 @@ use mir.Val.{bits}
 use Rattle.nbt_tags.specs.declared.tag.Tag.{Tag, out-Tag}
 use Rattle.nbt_tags.specs.declared.tag.Tag.TheOpen as layer
 use Rattle.nbt_tags.specs.declared.tag.Named.{Named}
-use Rattle.nbt_tags.specs.Kinds.{tag_byte, tag_kind}
-use Rattle.nbt_tags.specs.Spelling.{Layer, Nesting, Joins, IsEach, IsNumber, IsSigned, IsCount, IsText, IsPlain, IsLayer, IsItem, IsNoCount, IsList, IsArray, IsEntry, IsRow, IsCompound, IsPayload, nesting, max_depth, name_of, tag_of, Spells, SpellsRow}
-use Rattle.nbt_tags.specs.WellFormed.{AreBytes, IsName, AreCounted, Within, IsSound, IsSoundItem, IsSoundList, IsSoundEntry, IsSoundRow, within, IsSoundTag, IsWellFormed, IsWellFormedRow}
-use Rattle.nbt_tags.specs.Written.{Written, count_bytes, text_bytes, payload_bytes, written_tag, written, written_row}
+use Rattle.nbt_tags.specs.Spelling.{Layer, Nesting, IsEach, IsNumber, IsSigned, IsCount, IsText, IsLayer, IsItem, IsList, IsArray, IsEntry, IsRow, IsCompound, IsPayload, nesting, max_depth, name_of, tag_of, Spells, SpellsRow}
+use Rattle.nbt_tags.specs.WellFormed.{IsName, AreCounted, Within, IsSound, IsSoundItem, IsSoundList, IsSoundEntry, IsSoundRow, within, IsSoundTag, IsWellFormed, IsWellFormedRow}
+use Rattle.nbt_tags.specs.Written.{count_bytes, text_bytes, payload_bytes, written_tag, written, written_row}
 use Rattle.nbt_tags.proofs.WrittenTags.{inside, list_inside, compound_inside, written_tag-byte, written_tag-payload, written-out}
 
 -- ---- fields

@@ -1,15 +1,14 @@
 -- A set of names, as a test of which names are taken.
-use Rattle.std.proofs.Common.{◌≡◌, ℕ, Bool, true, false, cond, not, ◌||◌, List, Result, Ok, Err, refl, sym, ap, ◌∙◌, Bor}
+use Rattle.std.proofs.Common.{◌≡◌, ℕ, Bool, true, false, cond, not, ◌||◌, List, Ok, Err, refl, sym, ap, ◌∙◌, Bor}
 use mathlib.Core.Path.{fun_ext}
 use Rattle.std.proofs.lemmas.Map.Text.{is_eq-slice_cmp}
 use Rattle.std.specs.BTreeMap.{is_at}
 use Rattle.std.specs.BTreeSet.{BTreeSet, contains}
 use Rattle.std.specs.Cmp.Lexicographic.{slice_cmp}
 use Rattle.std.specs.Ordering.{nat_cmp, is_eq}
-use Rattle.std.specs.Str.{bytes_eq}
 use Rattle.nbt_tags.specs.declared.flaw.Cause.TheVariants.{Duplicate}
 use Rattle.nbt_tags.specs.Spelling.{also}
-use Rattle.nbt_tags.specs.Reading.{◌>>=◌, flaw_at, text_at, fresh_at}
+use Rattle.nbt_tags.specs.Reading.{flaw_at, text_at, fresh_at}
 use Rattle.nbt_tags.specs.Taken.{is_taken}
 
 not_false : (b : Bool) → not b ≡ false → b ≡ true

@@ -1,21 +1,21 @@
 -- Whole trees: what is read is spelled so, what is spelled so is read, and no spelling begins another.
-use Rattle.std.proofs.Common.{◌≡◌, ℕ, zero, suc, ◌+◌, ◌-◌, ◌≤◌, ◌<◌, Bool, List, [], ◌∷◌, ◌++◌, length, Option, Result, Ok, Err, refl, sym, ap, subst, ◌∙◌, append_assoc, arith}
+use Rattle.std.proofs.Common.{◌≡◌, ℕ, zero, suc, ◌+◌, ◌-◌, ◌<◌, List, [], ◌∷◌, ◌++◌, length, Result, Ok, Err, refl, sym, ap, subst, ◌∙◌, append_assoc, arith}
 use Rattle.std.proofs.lemmas.List.{append-nil, length-append, append_cancel_right}
 use Rattle.nbt_tags.specs.declared.ending.Ending.TheVariants as endings
 use Rattle.nbt_tags.specs.declared.flaw.Flaw.{Flaw}
 use Rattle.nbt_tags.specs.declared.kind.Kind.{Kind}
 use Rattle.nbt_tags.specs.declared.kind.Kind.TheVariants as kinds
-use Rattle.nbt_tags.specs.declared.tag.Tag.{Tag, out-Tag}
+use Rattle.nbt_tags.specs.declared.tag.Tag.{Tag}
 use Rattle.nbt_tags.specs.declared.tag.Tag.TheVariants as tags
 use Rattle.nbt_tags.specs.declared.tag.Named.{Named}
 use Rattle.nbt_tags.specs.Kinds.{type_byte, tag_kind}
-use Rattle.nbt_tags.specs.Spelling.{Nesting, Joins, IsLayer, IsPlain, IsText, IsRow, IsCompound, IsEntry, IsPayload, nesting, max_depth, none_taken, name_of, tag_of, Spells, SpellsRow}
-use Rattle.nbt_tags.specs.Reading.{Read, ◌>>=◌, Nested, content, nested_at, payload_at, whole_row_at, row_at, compound_in, root_at, ended, whole_root, whole_row, entry_at}
-use Rattle.nbt_tags.proofs.Both.{Found, Reads, Reads-same, Reads-map, Reads-then, bind_ok, ok_is}
+use Rattle.nbt_tags.specs.Spelling.{Nesting, IsCompound, IsPayload, nesting, max_depth, none_taken, tag_of, Spells, SpellsRow}
+use Rattle.nbt_tags.specs.Reading.{Read, Nested, content, nested_at, payload_at, whole_row_at, row_at, compound_in, root_at, ended, whole_root, whole_row}
+use Rattle.nbt_tags.proofs.Both.{Reads, Reads-same, Reads-map, Reads-then, bind_ok, ok_is}
 use Rattle.nbt_tags.proofs.FieldReads.{kind_at-reads}
 use Rattle.nbt_tags.proofs.LeafReads.{Made, OfKind, IsOf, variant-reads, the_List, the_Compound, byte-reads, short-reads, int-reads, long-reads, float-reads, double-reads, byte_array-reads, string-reads, int_array-reads, long_array-reads}
 use Rattle.nbt_tags.proofs.ListReads.{list_in-reads}
-use Rattle.nbt_tags.proofs.RowReads.{RowFound, entry_at-reads, row_at-sound, row_at-complete, length-IsEach}
+use Rattle.nbt_tags.proofs.RowReads.{entry_at-reads, row_at-sound, row_at-complete, length-IsEach}
 
 -- ---- compounds
 

@@ -1,5 +1,5 @@
 -- From the answer of a public reader to what it says of the bytes.
-use Rattle.std.proofs.Common.{◌≡◌, ℕ, List, length, Result, Ok, Err, sym, ap, subst, ◌∙◌}
+use Rattle.std.proofs.Common.{◌≡◌, ℕ, List, length, Result, Ok, Err, ap, subst}
 use Rattle.std.specs.Prelude.{IfOk}
 use Rattle.nbt_tags.specs.declared.fault.NbtFault.{NbtFault}
 use Rattle.nbt_tags.specs.declared.flaw.Flaw.{Flaw}

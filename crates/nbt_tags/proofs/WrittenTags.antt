@@ -7,7 +7,7 @@ use Rattle.byteorder.specs.Endian.{big_bytes}
 use Rattle.nbt_tags.specs.declared.tag.Tag.TheVariants as tags
 use Rattle.nbt_tags.specs.declared.tag.Tag.{Tag, out-Tag, map-Tag, fold_out-Tag}
 use Rattle.nbt_tags.specs.declared.tag.Tag.TheOpen as layer
-use Rattle.nbt_tags.specs.declared.tag.Named.{Named, out-Named, fold_out-Named}
+use Rattle.nbt_tags.specs.declared.tag.Named.{Named, fold_out-Named}
 use Rattle.nbt_tags.specs.Kinds.{type_byte, layer_kind, tag_byte}
 use Rattle.nbt_tags.specs.Spelling.{Layer, name_of, tag_of}
 use Rattle.nbt_tags.specs.Written.{Written, payload_bytes, count_bytes, text_bytes, tag_step, named_step, written_tag, written, written_row}

@@ -1,5 +1,5 @@
 -- The kinds of tags, and the byte that stands for each.
-use Rattle.std.specs.Prelude.{ℕ, Bool, Option, None, Some, ◌==◌, if◌then◌else◌}
+use Rattle.std.specs.Prelude.{ℕ, Option, None, Some, ◌==◌, if◌then◌else◌}
 use Rattle.nbt_tags.specs.declared.kind.Kind.{Kind}
 use Rattle.nbt_tags.specs.declared.kind.Kind.TheVariants as kinds
 use Rattle.nbt_tags.specs.declared.tag.Tag.{Tag, out-Tag}

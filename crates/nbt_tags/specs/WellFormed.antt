@@ -1,7 +1,7 @@
 -- What a named tag must meet to have a spelling: each number is in its type's range, each length and
 -- count fits its field, the items of a list have its type, the names of a compound are distinct, and no
 -- list or compound is deeper than 512.
-use Rattle.std.specs.Prelude.{◌≡◌, ℕ, zero, suc, ◌-◌, ◌^◌, ◌<◌, ◌≤◌, ℤ, FitsSigned, List, length}
+use Rattle.std.specs.Prelude.{◌≡◌, ℕ, zero, suc, ◌-◌, ◌^◌, ◌<◌, ◌≤◌, FitsSigned, List, length}
 use Rattle.std.specs.Int.{w8, w16, w32, w64}
 use Rattle.std.specs.List.{AllByRecursion}
 use Rattle.nbt_tags.specs.declared.tag.Tag.{Tag, out-Tag}

@@ -1,6 +1,6 @@
 -- The one spelling that is written, where an empty list has the count 0.
 use Rattle.std.specs.Prelude.{ℕ, List, [], ◌∷◌, ◌++◌, length}
-use Rattle.std.specs.Int.{w8, w16, w32, w64, byte_len, cast_unsigned}
+use Rattle.std.specs.Int.{w8, w16, w32, w64, cast_unsigned}
 use Rattle.std.specs.List.{flat_map}
 use Rattle.byteorder.specs.Endian.{big_bytes}
 use Rattle.nbt_tags.specs.declared.tag.Tag.{Tag, fold-Tag}

@@ -1,5 +1,3 @@
-use Rattle.std.proofs.Common.{ap, sym, ◌∙◌}
-use Rattle.nbt_tags.specs.Reading.{Fails}
 use Rattle.nbt_tags.specs.Taken.{is_taken}
 use Rattle.nbt_tags.proofs.TakenNames.{fresh_at-taken, fresh_at-fresh, is_taken-also}
 use Rattle.nbt_tags.proofs.names.fresh_at.Goals as goal

@@ -1,7 +1,7 @@
-use Rattle.std.proofs.Common.{◌≡◌, ◌+◌, length, Option, Some, None, Result, Ok, List, ℕ, sym, ap, ◌∙◌}
+use Rattle.std.proofs.Common.{◌+◌, length, Option, Ok, ap, ◌∙◌}
 use Rattle.std.proofs.lemmas.Result.{err_from_is_err_and}
 use Rattle.nbt_tags.specs.declared.kind.Kind.{Kind}
-use Rattle.nbt_tags.specs.Reading.{Fails, flaw_at, payload_at, items_at, whole_row_at, next_at}
+use Rattle.nbt_tags.specs.Reading.{payload_at, items_at, whole_row_at}
 use Rattle.nbt_tags.specs.Taken.{is_taken}
 use Rattle.nbt_tags.proofs.Steps.{items_at-more, items_at-fails, items_at-all, row_at-more, row_at-ends, row_at-fails, row_at-fails_inside, row_at-none}
 use Rattle.nbt_tags.proofs.payload.+payload.Goals as goal
