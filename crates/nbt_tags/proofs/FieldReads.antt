@@ -20,17 +20,17 @@ guard_ok false d x y e = (refl, cc)
 
 -- ---- bytes and numbers
 
-abbrev pub AreBytes : ℕ → List ℕ → List ℕ → Type 0
-AreBytes count text bytes = (length text ≡ count) × (bytes ≡ text)
+abbrev pub IsField : ℕ → List ℕ → List ℕ → Type 0
+IsField count text bytes = (length text ≡ count) × (bytes ≡ text)
 
-pub bytes_at-reads : (count : ℕ) → Reads (AreBytes count) (bytes_at count)
+pub bytes_at-reads : (count : ℕ) → Reads (IsField count) (bytes_at count)
 unfolding bytes_at
 bytes_at-reads count = record {
   sound = λ bytes text rest e.
       let g = guard_ok (ltb (length bytes) count) (flaw_at Short bytes) (take count bytes, drop count bytes) (text, rest) e in
       let long : count ≤ length bytes = ltb-false _ _ g.0 in
       let len : length (take count bytes) ≡ count = omega (arith, length-take count bytes) in
-      subst (λ (p : List ℕ × List ℕ). Found (AreBytes count) p.0 bytes p.1) g.1 (record { front = take count bytes; whole = sym (take-append-drop count bytes); holds = (len, refl) });
+      subst (λ (p : List ℕ × List ℕ). Found (IsField count) p.0 bytes p.1) g.1 (record { front = take count bytes; whole = sym (take-append-drop count bytes); holds = (len, refl) });
   complete = λ text front rest h.
       let long : ltb (length (text ++ rest)) count ≡ false = le-ltb _ _ (omega (arith, h.0, length-append text rest)) in
       rw (h.1, long, take_at text rest count h.0, drop_at text rest count h.0) refl;

@@ -45,7 +45,8 @@ parts bytes j h =
 
 -- ---- fields
 
-abbrev IsWide : Width → Type 0
+-- a width has whole bytes
+abbrev pub IsWide : Width → Type 0
 IsWide w = 256 ^ byte_len w ≡ 2 ^ bits w
 
 number_fits : (w : Width) → IsWide w → (n : ℕ) (bytes : List ℕ) → AreBytes bytes → IsNumber w n bytes → n < 2 ^ bits w

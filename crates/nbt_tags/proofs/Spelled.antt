@@ -13,13 +13,11 @@ use Rattle.nbt_tags.specs.declared.tag.Tag.TheOpen as layer
 use Rattle.nbt_tags.specs.declared.tag.Named.{Named}
 use Rattle.nbt_tags.specs.Spelling.{Layer, Nesting, IsEach, IsNumber, IsSigned, IsCount, IsText, IsLayer, IsItem, IsList, IsArray, IsEntry, IsRow, IsCompound, IsPayload, nesting, max_depth, name_of, tag_of, Spells, SpellsRow}
 use Rattle.nbt_tags.specs.WellFormed.{IsName, AreCounted, Within, IsSound, IsSoundItem, IsSoundList, IsSoundEntry, IsSoundRow, within, IsSoundTag, IsWellFormed, IsWellFormedRow}
-use Rattle.nbt_tags.specs.Written.{count_bytes, text_bytes, payload_bytes, written_tag, written, written_row}
+use Rattle.nbt_tags.specs.Written.{array_bytes, int_bytes, long_bytes, written_payload, count_bytes, text_bytes, payload_bytes, written_tag, written, written_row}
+use Rattle.nbt_tags.proofs.Fits.{IsWide}
 use Rattle.nbt_tags.proofs.WrittenTags.{inside, list_inside, compound_inside, written_tag-byte, written_tag-payload, written-out}
 
 -- ---- fields
-
-abbrev IsWide : Width → Type 0
-IsWide w = 256 ^ byte_len w ≡ 2 ^ bits w
 
 reads_back : (w : Width) → IsWide w → (n : ℕ) → n < 2 ^ bits w → big_number (byte_len w) (big_bytes (byte_len w) n) ≡ n
 reads_back w wide n lt =
@@ -49,23 +47,23 @@ each_spelled : {A : Type 0} (P : A → List ℕ → Type 0) (Q : A → Type 0) (
 each_spelled P Q f one [] h = refl
 each_spelled P Q f one (x ∷ xs) h = record { front = f x; back = flat_map f xs; whole = refl; first = one x h.0; second = each_spelled P Q f one xs h.1 }
 
-array_spelled : {A : Type 0} (P : A → List ℕ → Type 0) (Q : A → Type 0) (f : A → List ℕ) → ((x : A) → Q x → P x (f x)) → (xs : List A) → AreCounted Q xs → IsArray P xs (count_bytes (length xs) ++ flat_map f xs)
+array_spelled : {A : Type 0} (P : A → List ℕ → Type 0) (Q : A → Type 0) (f : A → List ℕ) → ((x : A) → Q x → P x (f x)) → (xs : List A) → AreCounted Q xs → IsArray P xs (array_bytes f xs)
 array_spelled P Q f one xs h =
     record { front = count_bytes (length xs); back = flat_map f xs; whole = refl; first = count_spelled (length xs) h.count; second = each_spelled P Q f one xs h.each }
 
 -- ---- lists and compounds
 
-module _ (P : Tag → List ℕ → Type 0) (W : Tag → Type 0) (one : (tag : Tag) → W tag → P tag (written_tag tag).payload) where
-  list_spelled : (element : ℕ) (items : List Tag) → IsSoundList W element items → IsList P element items (element ∷ (count_bytes (length items) ++ flat_map (λ tag. (written_tag tag).payload) items))
+module _ (P : Tag → List ℕ → Type 0) (W : Tag → Type 0) (one : (tag : Tag) → W tag → P tag (written_payload tag)) where
+  list_spelled : (element : ℕ) (items : List Tag) → IsSoundList W element items → IsList P element items (element ∷ array_bytes written_payload items)
   list_spelled element [] h =
       (h.known, record { front = element ∷ []; back = count_bytes 0; whole = refl; first = refl; second = record { count = pos 0; none = omega (arith, ints); spelled = count_spelled 0 (omega arith) } })
   list_spelled element (t ∷ ts) h =
       record {
         front = element ∷ [];
-        back = count_bytes (length (t ∷ ts)) ++ flat_map (λ tag. (written_tag tag).payload) (t ∷ ts);
+        back = array_bytes written_payload (t ∷ ts);
         whole = refl;
         first = refl;
-        second = array_spelled (IsItem P element) (IsSoundItem W element) (λ tag. (written_tag tag).payload) (λ tag item. record { type = item.type; payload = one tag item.fits }) (t ∷ ts) h.sound;
+        second = array_spelled (IsItem P element) (IsSoundItem W element) written_payload (λ tag item. record { type = item.type; payload = one tag item.fits }) (t ∷ ts) h.sound;
       }
 
   entry_spelled : (entry : Named) → IsSoundEntry W entry → IsEntry P entry (written entry)
@@ -88,7 +86,7 @@ module _ (P : Tag → List ℕ → Type 0) (W : Tag → Type 0) (one : (tag : Ta
 -- ---- one level
 
 record Spelt (N : Nesting) (W : Within) : Type 0 where
-  list : (element : ℕ) (items : List Tag) → W.list element items → N.list element items (element ∷ (count_bytes (length items) ++ flat_map (λ tag. (written_tag tag).payload) items))
+  list : (element : ℕ) (items : List Tag) → W.list element items → N.list element items (element ∷ array_bytes written_payload items)
   compound : (row : List Named) → W.compound row → N.compound row (written_row row ++ 0 ∷ [])
 
 layer_spelled : (N : Nesting) (W : Within) → Spelt N W → (level : Layer) → IsSound W level → IsLayer N level (payload_bytes (inside level))
@@ -102,12 +100,12 @@ layer_spelled N W s (layer.ByteArray items) h = record { front = count_bytes (le
 layer_spelled N W s (layer.Str text) h = text_spelled text h
 layer_spelled N W s (layer.List element items) h = subst (λ (bytes : List ℕ). N.list element items bytes) (sym (list_inside element items)) (s.list element items h)
 layer_spelled N W s (layer.Compound row) h = subst (λ (bytes : List ℕ). N.compound row bytes) (sym (compound_inside row)) (s.compound row h)
-layer_spelled N W s (layer.IntArray items) h = array_spelled (IsSigned w32) (λ z. FitsSigned w32 z) (λ z. big_bytes 4 (cast_unsigned w32 z)) (λ z fits. signed_spelled w32 refl z fits) items h
-layer_spelled N W s (layer.LongArray items) h = array_spelled (IsSigned w64) (λ z. FitsSigned w64 z) (λ z. big_bytes 8 (cast_unsigned w64 z)) (λ z fits. signed_spelled w64 refl z fits) items h
+layer_spelled N W s (layer.IntArray items) h = array_spelled (IsSigned w32) (λ z. FitsSigned w32 z) int_bytes (λ z fits. signed_spelled w32 refl z fits) items h
+layer_spelled N W s (layer.LongArray items) h = array_spelled (IsSigned w64) (λ z. FitsSigned w64 z) long_bytes (λ z fits. signed_spelled w64 refl z fits) items h
 
 -- ---- levels
 
-tag_spelled : (levels : ℕ) → Spelt (nesting levels) (within levels) → (tag : Tag) → IsSoundTag levels tag → IsPayload levels tag (written_tag tag).payload
+tag_spelled : (levels : ℕ) → Spelt (nesting levels) (within levels) → (tag : Tag) → IsSoundTag levels tag → IsPayload levels tag (written_payload tag)
 tag_spelled levels s tag h = subst (λ (bytes : List ℕ). IsPayload levels tag bytes) (sym (written_tag-payload tag)) (layer_spelled (nesting levels) (within levels) s (out-Tag tag) h)
 
 nesting_spelled : (levels : ℕ) → Spelt (nesting levels) (within levels)
@@ -117,7 +115,7 @@ nesting_spelled (suc levels) =
     let one = tag_spelled levels (nesting_spelled levels) in
     record { list = list_spelled (IsPayload levels) (IsSoundTag levels) one; compound = compound_spelled (IsPayload levels) (IsSoundTag levels) one }
 
-pub payload_spelled : (levels : ℕ) (tag : Tag) → IsSoundTag levels tag → IsPayload levels tag (written_tag tag).payload
+pub payload_spelled : (levels : ℕ) (tag : Tag) → IsSoundTag levels tag → IsPayload levels tag (written_payload tag)
 payload_spelled levels = tag_spelled levels (nesting_spelled levels)
 
 pub written-spells : (entry : Named) → IsWellFormed entry → Spells entry (written entry)

@@ -1,16 +1,14 @@
 -- The equations of what is written.
-use Rattle.std.proofs.Common.{◌≡◌, ℕ, ℤ, List, [], ◌∷◌, ◌++◌, length, map, refl, ap, ◌∙◌}
+use Rattle.std.proofs.Common.{◌≡◌, ℕ, List, [], ◌∷◌, ◌++◌, map, refl, ap, ◌∙◌}
 use Rattle.std.proofs.lemmas.List.{length-map}
-use Rattle.std.specs.Int.{w8, w16, w32, w64, cast_unsigned}
 use Rattle.std.specs.List.{flat_map}
-use Rattle.byteorder.specs.Endian.{big_bytes}
 use Rattle.nbt_tags.specs.declared.tag.Tag.TheVariants as tags
 use Rattle.nbt_tags.specs.declared.tag.Tag.{Tag, out-Tag, map-Tag, fold_out-Tag}
 use Rattle.nbt_tags.specs.declared.tag.Tag.TheOpen as layer
 use Rattle.nbt_tags.specs.declared.tag.Named.{Named, fold_out-Named}
 use Rattle.nbt_tags.specs.Kinds.{type_byte, layer_kind, tag_byte}
 use Rattle.nbt_tags.specs.Spelling.{Layer, name_of, tag_of}
-use Rattle.nbt_tags.specs.Written.{Written, payload_bytes, count_bytes, text_bytes, tag_step, named_step, written_tag, written, written_row}
+use Rattle.nbt_tags.specs.Written.{array_bytes, written_payload, Written, payload_bytes, text_bytes, tag_step, named_step, written_tag, written, written_row}
 
 -- one level, with the tags inside written
 abbrev pub inside : Layer → layer.Tag-F Written (List ℕ)
@@ -36,7 +34,7 @@ written_tag-out tag = fold_out-Tag Written (List ℕ) tag_step named_step tag
 pub written_tag-byte : (tag : Tag) → (written_tag tag).byte ≡ tag_byte tag
 written_tag-byte tag = ap (λ (w : Written). w.byte) (written_tag-out tag) ∙ ap type_byte (layer_kind-inside (out-Tag tag))
 
-pub written_tag-payload : (tag : Tag) → (written_tag tag).payload ≡ payload_bytes (inside (out-Tag tag))
+pub written_tag-payload : (tag : Tag) → written_payload tag ≡ payload_bytes (inside (out-Tag tag))
 written_tag-payload tag = ap (λ (w : Written). w.payload) (written_tag-out tag)
 
 pub written-out : (entry : Named) → written entry ≡ (written_tag (tag_of entry)).byte ∷ (text_bytes (name_of entry) ++ (written_tag (tag_of entry)).payload)
@@ -48,47 +46,17 @@ flat_map-map : {A B : Type 0} (f : B → List ℕ) (g : A → B) (xs : List A) �
 flat_map-map f g [] = refl
 flat_map-map f g (x ∷ xs) = ap (λ (part : List ℕ). f (g x) ++ part) (flat_map-map f g xs)
 
-pub list_inside : (element : ℕ) (items : List Tag) → payload_bytes (inside (layer.List element items)) ≡ element ∷ (count_bytes (length items) ++ flat_map (λ tag. (written_tag tag).payload) items)
+pub list_inside : (element : ℕ) (items : List Tag) → payload_bytes (inside (layer.List element items)) ≡ element ∷ array_bytes written_payload items
 list_inside element items = ap (λ (part : List ℕ). element ∷ part) (rw (length-map, flat_map-map (λ (item : Written). item.payload) written_tag items) refl)
 
 pub compound_inside : (row : List Named) → payload_bytes (inside (layer.Compound row)) ≡ written_row row ++ 0 ∷ []
 compound_inside row = ap (λ (part : List ℕ). part ++ 0 ∷ []) (flat_map-map (λ (entry : List ℕ). entry) written row)
 
-payload_of : (tag : Tag) (level : Layer) → out-Tag tag ≡ level → (written_tag tag).payload ≡ payload_bytes (inside level)
+payload_of : (tag : Tag) (level : Layer) → out-Tag tag ≡ level → written_payload tag ≡ payload_bytes (inside level)
 payload_of tag level is = written_tag-payload tag ∙ ap (λ (y : Layer). payload_bytes (inside y)) is
 
-pub payload_Byte : (z : ℤ) → (written_tag (tags.Byte z)).payload ≡ big_bytes 1 (cast_unsigned w8 z)
-payload_Byte z = payload_of (tags.Byte z) (layer.Byte z) (tags.outs-Byte z)
-
-pub payload_Short : (z : ℤ) → (written_tag (tags.Short z)).payload ≡ big_bytes 2 (cast_unsigned w16 z)
-payload_Short z = payload_of (tags.Short z) (layer.Short z) (tags.outs-Short z)
-
-pub payload_Int : (z : ℤ) → (written_tag (tags.Int z)).payload ≡ big_bytes 4 (cast_unsigned w32 z)
-payload_Int z = payload_of (tags.Int z) (layer.Int z) (tags.outs-Int z)
-
-pub payload_Long : (z : ℤ) → (written_tag (tags.Long z)).payload ≡ big_bytes 8 (cast_unsigned w64 z)
-payload_Long z = payload_of (tags.Long z) (layer.Long z) (tags.outs-Long z)
-
-pub payload_Float : (n : ℕ) → (written_tag (tags.Float n)).payload ≡ big_bytes 4 n
-payload_Float n = payload_of (tags.Float n) (layer.Float n) (tags.outs-Float n)
-
-pub payload_Double : (n : ℕ) → (written_tag (tags.Double n)).payload ≡ big_bytes 8 n
-payload_Double n = payload_of (tags.Double n) (layer.Double n) (tags.outs-Double n)
-
-pub payload_ByteArray : (items : List ℕ) → (written_tag (tags.ByteArray items)).payload ≡ count_bytes (length items) ++ items
-payload_ByteArray items = payload_of (tags.ByteArray items) (layer.ByteArray items) (tags.outs-ByteArray items)
-
-pub payload_Str : (text : List ℕ) → (written_tag (tags.Str text)).payload ≡ text_bytes text
-payload_Str text = payload_of (tags.Str text) (layer.Str text) (tags.outs-Str text)
-
-pub payload_List : (element : ℕ) (items : List Tag) → (written_tag (tags.List element items)).payload ≡ element ∷ (count_bytes (length items) ++ flat_map (λ tag. (written_tag tag).payload) items)
+pub payload_List : (element : ℕ) (items : List Tag) → (written_tag (tags.List element items)).payload ≡ element ∷ array_bytes written_payload items
 payload_List element items = payload_of (tags.List element items) (layer.List element items) (tags.outs-List element items) ∙ list_inside element items
 
 pub payload_Compound : (row : List Named) → (written_tag (tags.Compound row)).payload ≡ written_row row ++ 0 ∷ []
 payload_Compound row = payload_of (tags.Compound row) (layer.Compound row) (tags.outs-Compound row) ∙ compound_inside row
-
-pub payload_IntArray : (items : List ℤ) → (written_tag (tags.IntArray items)).payload ≡ count_bytes (length items) ++ flat_map (λ z. big_bytes 4 (cast_unsigned w32 z)) items
-payload_IntArray items = payload_of (tags.IntArray items) (layer.IntArray items) (tags.outs-IntArray items)
-
-pub payload_LongArray : (items : List ℤ) → (written_tag (tags.LongArray items)).payload ≡ count_bytes (length items) ++ flat_map (λ z. big_bytes 8 (cast_unsigned w64 z)) items
-payload_LongArray items = payload_of (tags.LongArray items) (layer.LongArray items) (tags.outs-LongArray items)

@@ -34,7 +34,8 @@ pub fn fresh_at<'a>(
     bytes: &'a [u8],
     rest: &'a [u8],
 ) -> Result<(&'a [u8], &'a [u8]), Failure>
-    ensures gives { Gives (λ x. (x.0.now, x.1.now)) result (fresh_at (is_taken names.old) bytes.now rest.now) }
+    ensures gives { Gives (λ x. (x.0.now, x.1.now)) result
+        (fresh_at (is_taken names.old) bytes.now rest.now) }
     ensures taken { IfOk result (λ x. is_taken names.new ≡ also x.0.now (is_taken names.old)) }
 {
     let (name, rest) = text_at(rest)?;

@@ -83,7 +83,8 @@ fn counted<'a>(
     count: i32,
     rest: &'a [u8],
 ) -> Result<(Items<Tag>, &'a [u8]), Failure>
-    ensures { Gives (λ x. (x.0, x.1.now)) result (counted_at (payload_at levels) bytes.now element count rest.now) }
+    ensures { Gives (λ x. (x.0, x.1.now)) result
+        (counted_at (payload_at levels) bytes.now element count rest.now) }
 {
     if count <= 0 {
         return Ok((Items::new(alloc), rest));
@@ -103,7 +104,8 @@ fn items(
     count: usize,
     bytes: &[u8],
 ) -> Result<(Items<Tag>, &[u8]), Failure>
-    ensures { Gives (λ x. (x.0, x.1.now)) result (items_at (payload_at levels kind) count bytes.now) }
+    ensures { Gives (λ x. (x.0, x.1.now)) result
+        (items_at (payload_at levels kind) count bytes.now) }
 {
     let mut items = with_room(alloc, count, bytes.len())?;
     let mut rest = bytes;
@@ -145,7 +147,8 @@ pub fn row(
     ending: Ending,
     bytes: &[u8],
 ) -> Result<(Items<Named>, &[u8]), Failure>
-    ensures { Gives (λ x. (x.0, x.1.now)) result (whole_row_at (payload_at levels) ending bytes.now) }
+    ensures { Gives (λ x. (x.0, x.1.now)) result
+        (whole_row_at (payload_at levels) ending bytes.now) }
 {
     let mut names = BTreeSet::new(alloc);
     let mut row = Vec::new(alloc);
@@ -174,8 +177,10 @@ pub fn entry<'a>(
     bytes: &'a [u8],
     rest: &'a [u8],
 ) -> Result<(Named, &'a [u8]), Failure>
-    ensures gives { Gives (λ x. (x.0, x.1.now)) result (entry_at (payload_at levels kind) (is_taken names.old) bytes.now rest.now) }
-    ensures taken { IfOk result (λ x. is_taken names.new ≡ also (name_of x.0) (is_taken names.old)) }
+    ensures gives { Gives (λ x. (x.0, x.1.now)) result
+        (entry_at (payload_at levels kind) (is_taken names.old) bytes.now rest.now) }
+    ensures taken { IfOk result
+        (λ x. is_taken names.new ≡ also (name_of x.0) (is_taken names.old)) }
 {
     let (name, rest) = fresh_at(names, bytes, rest)?;
     let (tag, rest) = payload(alloc, levels, kind, rest)?;

@@ -1,6 +1,6 @@
 //! How much room is taken for what a count announces.
 
-ghost use Rattle.std.specs.Prelude.{◌≡◌, [], ℕ, IfOk};
+ghost use Rattle.std.specs.Prelude.{◌≡◌, [], IfOk};
 ghost use Rattle.nbt_tags.specs.Room.{room_for};
 
 use std::alloc::{AllocError, Global};

@@ -1,8 +1,7 @@
 //! The written spelling of tags, at the end of what is written.
 
-ghost use Rattle.std.specs.Prelude.{◌≡◌, ◌++◌, ◌∷◌, [], length, OnOk};
-ghost use Rattle.std.specs.List.{flat_map};
-ghost use Rattle.nbt_tags.specs.Written.{count_bytes, written_tag, written, written_row};
+ghost use Rattle.std.specs.Prelude.{◌≡◌, ◌++◌, ◌∷◌, [], OnOk};
+ghost use Rattle.nbt_tags.specs.Written.{array_bytes, written_tag, written_payload, written, written_row};
 
 use crate::put::{
     put_bytes, put_count, put_i8, put_i16, put_i32, put_i64, put_ints, put_longs, put_text,
@@ -34,7 +33,7 @@ fn tag_byte(tag: &Tag) -> u8
 /// The payload of a tag.
 #[cycle(put)]
 pub fn put_payload(out: &mut Vec<u8>, tag: &Tag) -> Result<(), AllocError>
-    ensures { OnOk result (out.new.items ≡ out.old.items ++ (written_tag tag.now).payload) }
+    ensures { OnOk result (out.new.items ≡ out.old.items ++ written_payload tag.now) }
 {
     match tag {
         Tag::Byte(number) => put_i8(out, number),
@@ -55,7 +54,8 @@ pub fn put_payload(out: &mut Vec<u8>, tag: &Tag) -> Result<(), AllocError>
 /// The payload of a list.
 #[cycle(put)]
 fn put_list(out: &mut Vec<u8>, element: u8, items: &[Tag]) -> Result<(), AllocError>
-    ensures { OnOk result (out.new.items ≡ out.old.items ++ element ∷ (count_bytes (length items.now) ++ flat_map (λ tag. (written_tag tag).payload) items.now)) }
+    ensures { OnOk result
+        (out.new.items ≡ out.old.items ++ element ∷ array_bytes written_payload items.now) }
 {
     out.push(element)?;
     put_count(out, items.len())?;

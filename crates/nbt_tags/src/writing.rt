@@ -26,7 +26,8 @@ pub fn encode(alloc: Global, tag: &Named) -> Result<Vec<u8>, Memory>
 pub fn encode_row(alloc: Global, row: &[Named]) -> Result<Vec<u8>, Memory>
     ensures exact { IfOk result (λ bytes. bytes.items ≡ written_row row.now) }
     // Where the row is well formed in a compound of some depth, the bytes spell it there.
-    ensures spelled { (depth : ℕ) → IsWellFormedRow depth row.now → IfOk result (λ bytes. SpellsRow depth row.now bytes.items) }
+    ensures spelled { (depth : ℕ) → IsWellFormedRow depth row.now
+        → IfOk result (λ bytes. SpellsRow depth row.now bytes.items) }
 {
     let mut bytes = Vec::new(alloc);
     put_row(&mut bytes, row)?;
