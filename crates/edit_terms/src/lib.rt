@@ -21,6 +21,9 @@ mod script;
 mod step;
 mod world_box;
 
+#[cfg(test)]
+mod tests;
+
 pub use block_name::BlockName;
 pub use block_state::BlockState;
 pub use content::Content;
