@@ -19,10 +19,9 @@ mod properties;
 mod region;
 mod script;
 mod step;
-mod world_box;
-
 #[cfg(test)]
 mod tests;
+mod world_box;
 
 pub use block_name::BlockName;
 pub use block_state::BlockState;

@@ -10,7 +10,8 @@ use std::process::Abort;
 use std::sync::Arc;
 use std::test::Fail;
 
-fn at(x: i32, y: i32, z: i32) -> Pos {
+fn at(place: [i32; 3]) -> Pos {
+    let [x, y, z] = place;
     Pos { x, y, z }
 }
 
@@ -59,70 +60,79 @@ fn hash_of<T: Hash>(value: &T) -> u64 {
 #[test]
 fn boxes_are_made_up_to_their_limits(rt: HostRuntime) {
     for (least, width, height, length, made) in [
-        (at(0, 0, 0), 1, 1, 1, true),
-        (at(0, 0, 0), 0, 1, 1, false),
-        (at(0, 0, 0), 1, 0, 1, false),
-        (at(0, 0, 0), 1, 1, 0, false),
-        (at(0, 0, 0), 65_535, 1, 1, true),
-        (at(0, 0, 0), 65_536, 1, 1, false),
-        (at(0, 0, 0), 1, 1, 65_535, true),
-        (at(0, 0, 0), 1, 1, 65_536, false),
-        (at(0, 0, 0), 65_536, 1, 65_536, false),
-        (at(0, -2_048, 0), 1, 4_096, 1, true),
-        (at(0, -2_048, 0), 1, 4_097, 1, false),
-        (at(0, -2_048, 0), 1, 65_536, 1, false),
+        ([0, 0, 0], 1, 1, 1, true),
+        ([0, 0, 0], 0, 1, 1, false),
+        ([0, 0, 0], 1, 0, 1, false),
+        ([0, 0, 0], 1, 1, 0, false),
+        ([0, 0, 0], 65_535, 1, 1, true),
+        ([0, 0, 0], 65_536, 1, 1, false),
+        ([0, 0, 0], 1, 1, 65_535, true),
+        ([0, 0, 0], 1, 1, 65_536, false),
+        ([0, 0, 0], 65_536, 1, 65_536, false),
+        ([0, -2_048, 0], 1, 4_096, 1, true),
+        ([0, -2_048, 0], 1, 4_097, 1, false),
+        ([0, -2_048, 0], 1, 65_536, 1, false),
         // 33,554,432 blocks, one more, and 2 to the 42nd power
-        (at(-4_096, -2_048, 0), 8_192, 4_096, 1, true),
-        (at(0, 0, 0), 8_283, 1, 4_051, false),
-        (at(0, -2_048, 0), 32_768, 4_096, 32_768, false),
-        (at(-33_554_432, 0, 0), 1, 1, 1, true),
-        (at(-33_554_433, 0, 0), 1, 1, 1, false),
-        (at(33_554_431, 0, 0), 1, 1, 1, true),
-        (at(33_554_431, 0, 0), 2, 1, 1, false),
-        (at(33_554_432, 0, 0), 1, 1, 1, false),
-        (at(0, -2_048, 0), 1, 1, 1, true),
-        (at(0, -2_049, 0), 1, 1, 1, false),
-        (at(0, 2_047, 0), 1, 1, 1, true),
-        (at(0, 2_047, 0), 1, 2, 1, false),
-        (at(0, 2_048, 0), 1, 1, 1, false),
-        (at(0, 0, -33_554_432), 1, 1, 1, true),
-        (at(0, 0, -33_554_433), 1, 1, 1, false),
-        (at(0, 0, 33_554_431), 1, 1, 1, true),
-        (at(0, 0, 33_554_431), 1, 1, 2, false),
-        (at(0, 0, 33_554_432), 1, 1, 1, false),
-        (at(i32::MAX, 0, 0), u32::MAX, u32::MAX, u32::MAX, false),
+        ([-4_096, -2_048, 0], 8_192, 4_096, 1, true),
+        ([0, 0, 0], 8_283, 1, 4_051, false),
+        ([0, -2_048, 0], 32_768, 4_096, 32_768, false),
+        ([-33_554_432, 0, 0], 1, 1, 1, true),
+        ([-33_554_433, 0, 0], 1, 1, 1, false),
+        ([33_554_431, 0, 0], 1, 1, 1, true),
+        ([33_554_431, 0, 0], 2, 1, 1, false),
+        ([33_554_432, 0, 0], 1, 1, 1, false),
+        ([0, -2_048, 0], 1, 1, 1, true),
+        ([0, -2_049, 0], 1, 1, 1, false),
+        ([0, 2_047, 0], 1, 1, 1, true),
+        ([0, 2_047, 0], 1, 2, 1, false),
+        ([0, 2_048, 0], 1, 1, 1, false),
+        ([0, 0, -33_554_432], 1, 1, 1, true),
+        ([0, 0, -33_554_433], 1, 1, 1, false),
+        ([0, 0, 33_554_431], 1, 1, 1, true),
+        ([0, 0, 33_554_431], 1, 1, 2, false),
+        ([0, 0, 33_554_432], 1, 1, 1, false),
+        ([i32::MAX, 0, 0], u32::MAX, u32::MAX, u32::MAX, false),
     ] {
+        let least = at(least);
         let area = WorldBox::new(least, width, height, length);
-        assert_eq!(rt; area.is_some(), made, "{width},{height},{length} at {least:?}");
+        assert_eq!(rt;
+            area.is_some(),
+            made,
+            "{width},{height},{length} at {least:?}"
+        );
         if let Some(area) = area {
             assert_eq!(rt; area.least(), least);
-            assert_eq!(rt; (area.width(), area.height(), area.length()), (width, height, length));
+            assert_eq!(rt;
+                (area.width(), area.height(), area.length()),
+                (width, height, length)
+            );
         }
     }
 }
 
 #[test]
 fn blocks_of_a_box_are_listed_by_x_then_z_then_y(rt: HostRuntime) -> Result<(), Fail> {
-    let area = WorldBox::new(at(-2, 3, -4), 3, 2, 5).ok_or("a world's box")?;
+    let area = WorldBox::new(at([-2, 3, -4]), 3, 2, 5).ok_or("a world's box")?;
     assert_eq!(rt; area.volume(), 30);
     for (p, index) in [
-        (at(-2, 3, -4), Some(0)),
-        (at(0, 3, -4), Some(2)),
-        (at(-2, 3, -3), Some(3)),
-        (at(-2, 3, 0), Some(12)),
-        (at(0, 3, 0), Some(14)),
-        (at(-2, 4, -4), Some(15)),
-        (at(-1, 4, -2), Some(22)),
-        (at(0, 4, 0), Some(29)),
-        (at(-3, 3, -4), None),
-        (at(1, 3, -4), None),
-        (at(-2, 2, -4), None),
-        (at(-2, 5, -4), None),
-        (at(-2, 3, -5), None),
-        (at(-2, 3, 1), None),
-        (at(i32::MIN, i32::MIN, i32::MIN), None),
-        (at(i32::MAX, i32::MAX, i32::MAX), None),
+        ([-2, 3, -4], Some(0)),
+        ([0, 3, -4], Some(2)),
+        ([-2, 3, -3], Some(3)),
+        ([-2, 3, 0], Some(12)),
+        ([0, 3, 0], Some(14)),
+        ([-2, 4, -4], Some(15)),
+        ([-1, 4, -2], Some(22)),
+        ([0, 4, 0], Some(29)),
+        ([-3, 3, -4], None),
+        ([1, 3, -4], None),
+        ([-2, 2, -4], None),
+        ([-2, 5, -4], None),
+        ([-2, 3, -5], None),
+        ([-2, 3, 1], None),
+        ([i32::MIN, i32::MIN, i32::MIN], None),
+        ([i32::MAX, i32::MAX, i32::MAX], None),
     ] {
+        let p = at(p);
         assert_eq!(rt; area.index_of(p), index, "{p:?}");
         assert_eq!(rt; area.holds(p), index.is_some(), "{p:?}");
         if let Some(index) = index {
@@ -132,10 +142,10 @@ fn blocks_of_a_box_are_listed_by_x_then_z_then_y(rt: HostRuntime) -> Result<(), 
     for index in [30, 31, u32::MAX] {
         assert_eq!(rt; area.position(index), None, "{index}");
     }
-    let largest = WorldBox::new(at(-4_096, -2_048, 9), 8_192, 4_096, 1).ok_or("a world's box")?;
+    let largest = WorldBox::new(at([-4_096, -2_048, 9]), 8_192, 4_096, 1).ok_or("a world's box")?;
     assert_eq!(rt; largest.volume(), 33_554_432);
-    assert_eq!(rt; largest.index_of(at(4_095, 2_047, 9)), Some(33_554_431));
-    assert_eq!(rt; largest.position(33_554_431), Some(at(4_095, 2_047, 9)));
+    assert_eq!(rt; largest.index_of(at([4_095, 2_047, 9])), Some(33_554_431));
+    assert_eq!(rt; largest.position(33_554_431), Some(at([4_095, 2_047, 9])));
     assert_eq!(rt; largest.position(33_554_432), None);
     Ok(())
 }
@@ -143,46 +153,50 @@ fn blocks_of_a_box_are_listed_by_x_then_z_then_y(rt: HostRuntime) -> Result<(), 
 #[test]
 fn chunks_are_counted_by_floor(rt: HostRuntime) {
     for (least, width, length, chunks) in [
-        (at(-1, 0, -1), 17, 17, 4),
-        (at(0, 0, 0), 16, 16, 1),
-        (at(0, 0, 0), 17, 16, 2),
-        (at(0, 0, 0), 16, 17, 2),
-        (at(15, 0, 15), 2, 2, 4),
-        (at(-1, 0, -1), 1, 1, 1),
-        (at(-16, 0, -16), 16, 16, 1),
-        (at(-17, 0, -16), 17, 16, 2),
-        (at(-20, 0, -5), 33, 18, 6),
-        (at(1, 0, 0), 65_535, 512, 131_072),
+        ([-1, 0, -1], 17, 17, 4),
+        ([0, 0, 0], 16, 16, 1),
+        ([0, 0, 0], 17, 16, 2),
+        ([0, 0, 0], 16, 17, 2),
+        ([15, 0, 15], 2, 2, 4),
+        ([-1, 0, -1], 1, 1, 1),
+        ([-16, 0, -16], 16, 16, 1),
+        ([-17, 0, -16], 17, 16, 2),
+        ([-20, 0, -5], 33, 18, 6),
+        ([1, 0, 0], 65_535, 512, 131_072),
     ] {
-        let chunks_of = WorldBox::new(least, width, 1, length).map(|area| area.chunks());
+        let chunks_of = WorldBox::new(at(least), width, 1, length).map(|area| area.chunks());
         assert_eq!(rt; chunks_of, Some(chunks), "{width},1,{length} at {least:?}");
     }
 }
 
 #[test]
 fn chunks_are_numbered_by_x_then_z(rt: HostRuntime) -> Result<(), Fail> {
-    let small = WorldBox::new(at(-1, 0, -1), 17, 1, 17).ok_or("a world's box")?;
-    let wide = WorldBox::new(at(-20, -3, -5), 33, 4, 18).ok_or("a world's box")?;
-    for (area, p, chunk) in [
-        (small, at(-1, 0, -1), Some(0)),
-        (small, at(0, 0, -1), Some(1)),
-        (small, at(-1, 0, 0), Some(2)),
-        (small, at(0, 0, 0), Some(3)),
-        (small, at(15, 0, 15), Some(3)),
-        (small, at(16, 0, 0), None),
-        (small, at(-2, 0, -1), None),
-        (small, at(0, 1, 0), None),
-        (small, at(0, 0, 16), None),
-        (wide, at(-20, -3, -5), Some(0)),
-        (wide, at(-17, 0, -1), Some(0)),
-        (wide, at(-16, 0, -1), Some(1)),
-        (wide, at(12, 0, -1), Some(2)),
-        (wide, at(-17, 0, 0), Some(3)),
-        (wide, at(-1, 0, 12), Some(4)),
-        (wide, at(12, 0, 12), Some(5)),
-        (wide, at(12, 1, 12), None),
+    let small = WorldBox::new(at([-1, 0, -1]), 17, 1, 17).ok_or("a world's box")?;
+    let wide = WorldBox::new(at([-20, -3, -5]), 33, 4, 18).ok_or("a world's box")?;
+    for (p, chunk) in [
+        ([-1, 0, -1], Some(0)),
+        ([0, 0, -1], Some(1)),
+        ([-1, 0, 0], Some(2)),
+        ([0, 0, 0], Some(3)),
+        ([15, 0, 15], Some(3)),
+        ([16, 0, 0], None),
+        ([-2, 0, -1], None),
+        ([0, 1, 0], None),
+        ([0, 0, 16], None),
     ] {
-        assert_eq!(rt; area.chunk_of(p), chunk, "{p:?}");
+        assert_eq!(rt; small.chunk_of(at(p)), chunk, "{p:?}");
+    }
+    for (p, chunk) in [
+        ([-20, -3, -5], Some(0)),
+        ([-17, 0, -1], Some(0)),
+        ([-16, 0, -1], Some(1)),
+        ([12, 0, -1], Some(2)),
+        ([-17, 0, 0], Some(3)),
+        ([-1, 0, 12], Some(4)),
+        ([12, 0, 12], Some(5)),
+        ([12, 1, 12], None),
+    ] {
+        assert_eq!(rt; wide.chunk_of(at(p)), chunk, "{p:?}");
     }
     Ok(())
 }
@@ -282,7 +296,10 @@ fn many_properties(
     for number in 0..count {
         let mut key = Vec::from_slice(alloc, &[b'a' + number / 10 % 10, b'0' + number % 10])?;
         key.extend_from_slice(&word_of(alloc, key_len.saturating_sub(2))?)?;
-        pairs.push((Name::from_vec(key), Name::from_vec(word_of(alloc, value_len)?)))?;
+        pairs.push((
+            Name::from_vec(key),
+            Name::from_vec(word_of(alloc, value_len)?),
+        ))?;
     }
     Ok(Properties::from_pairs(pairs))
 }
@@ -302,10 +319,23 @@ fn properties_are_made_up_to_their_limits(rt: HostRuntime) -> Result<(), Fail> {
         (16, 64, 65, false),
     ] {
         let properties = many_properties(alloc, count, key_len, value_len)?;
-        assert_eq!(rt; properties.is_some(), made, "{count} of {key_len} and {value_len}");
+        assert_eq!(rt;
+            properties.is_some(),
+            made,
+            "{count} of {key_len} and {value_len}"
+        );
     }
     let one = properties_of(alloc, &[("facing", "east"), ("half", "top")])?.ok_or("properties")?;
-    for key in ["", "f", "facin", "facing_", "Facing", "east", "top", "waterlogged"] {
+    for key in [
+        "",
+        "f",
+        "facin",
+        "facing_",
+        "Facing",
+        "east",
+        "top",
+        "waterlogged",
+    ] {
         assert!(rt; one.get(key.as_bytes()).is_none(), "{key}");
     }
     Ok(())
@@ -315,12 +345,24 @@ fn properties_are_made_up_to_their_limits(rt: HostRuntime) -> Result<(), Fail> {
 fn states_are_equal_by_name_and_properties(rt: HostRuntime) -> Result<(), Fail> {
     let alloc = rt.alloc();
     let others: [(&str, &[(&str, &str)]); 6] = [
-        ("minecraft:oak_stair", &[("facing", "east"), ("half", "top")]),
+        (
+            "minecraft:oak_stair",
+            &[("facing", "east"), ("half", "top")],
+        ),
         ("minecraft:oak_stairs", &[]),
         ("minecraft:oak_stairs", &[("facing", "east")]),
-        ("minecraft:oak_stairs", &[("facing", "west"), ("half", "top")]),
-        ("minecraft:oak_stairs", &[("facing", "east"), ("hinge", "top")]),
-        ("minecraft:oak_stairs", &[("facing", "east"), ("half", "top"), ("shape", "straight")]),
+        (
+            "minecraft:oak_stairs",
+            &[("facing", "west"), ("half", "top")],
+        ),
+        (
+            "minecraft:oak_stairs",
+            &[("facing", "east"), ("hinge", "top")],
+        ),
+        (
+            "minecraft:oak_stairs",
+            &[("facing", "east"), ("half", "top"), ("shape", "straight")],
+        ),
     ];
     let pairs = [("facing", "east"), ("half", "top")];
     let own = state_of(alloc, "minecraft:oak_stairs", &pairs)?;
@@ -387,7 +429,7 @@ fn contents_share_state_and_entity(rt: HostRuntime) -> Result<(), Fail> {
 
 /// A grid of the box 2,2,2 at -1,0,-1 with these cells, of the states stone, dirt and stone.
 fn grid_of(alloc: Global, cells: &[u32]) -> Result<Option<Grid>, Fail> {
-    let area = WorldBox::new(at(-1, 0, -1), 2, 2, 2).ok_or("a world's box")?;
+    let area = WorldBox::new(at([-1, 0, -1]), 2, 2, 2).ok_or("a world's box")?;
     let mut kinds = Vec::new(alloc);
     for name in ["minecraft:stone", "minecraft:dirt", "minecraft:stone"] {
         kinds.push(state_of(alloc, name, &[])?)?;
@@ -415,16 +457,17 @@ fn a_grid_has_a_state_at_each_block(rt: HostRuntime) -> Result<(), Fail> {
     assert_eq!(rt; grid.kinds().len(), 3);
     assert_eq!(rt; grid.area().volume(), 8);
     for (p, name) in [
-        (at(-1, 0, -1), Some("stone")),
-        (at(0, 0, -1), Some("dirt")),
-        (at(-1, 0, 0), Some("stone")),
-        (at(0, 0, 0), Some("stone")),
-        (at(-1, 1, -1), Some("dirt")),
-        (at(0, 1, 0), Some("dirt")),
-        (at(1, 0, 0), None),
-        (at(0, 2, 0), None),
-        (at(0, 0, -2), None),
+        ([-1, 0, -1], Some("stone")),
+        ([0, 0, -1], Some("dirt")),
+        ([-1, 0, 0], Some("stone")),
+        ([0, 0, 0], Some("stone")),
+        ([-1, 1, -1], Some("dirt")),
+        ([0, 1, 0], Some("dirt")),
+        ([1, 0, 0], None),
+        ([0, 2, 0], None),
+        ([0, 0, -2], None),
     ] {
+        let p = at(p);
         let found = grid.get(p);
         assert_eq!(rt; found.is_some(), name.is_some(), "{p:?}");
         if let (Some(state), Some(name)) = (found, name) {
@@ -436,11 +479,11 @@ fn a_grid_has_a_state_at_each_block(rt: HostRuntime) -> Result<(), Fail> {
 }
 
 /// A grid with an entity of this byte at each of these positions.
-fn grid_with_entities(alloc: Global, placed: &[(Pos, u8)]) -> Result<Option<Grid>, Fail> {
+fn grid_with_entities(alloc: Global, placed: &[([i32; 3], u8)]) -> Result<Option<Grid>, Fail> {
     let grid = grid_of(alloc, &[0, 1, 2, 0, 1, 2, 0, 1])?.ok_or("a grid")?;
     let mut list = Vec::new(alloc);
     for (p, byte) in placed {
-        list.push((*p, entity_of(alloc, &[*byte], b"")?))?;
+        list.push((at(*p), entity_of(alloc, &[*byte], b"")?))?;
     }
     Ok(grid.with_entities(Entities::from_vec(list)))
 }
@@ -448,15 +491,23 @@ fn grid_with_entities(alloc: Global, placed: &[(Pos, u8)]) -> Result<Option<Grid
 #[test]
 fn entities_of_a_grid_rise_in_index_order(rt: HostRuntime) -> Result<(), Fail> {
     let alloc = rt.alloc();
-    let cases: [(&[(Pos, u8)], bool); 8] = [
+    let cases: [(&[([i32; 3], u8)], bool); 8] = [
         (&[], true),
-        (&[(at(0, 1, 0), 9)], true),
-        (&[(at(-1, 0, -1), 1), (at(0, 0, -1), 2), (at(-1, 0, 0), 3), (at(-1, 1, -1), 4)], true),
-        (&[(at(0, 0, -1), 1), (at(-1, 0, -1), 2)], false),
-        (&[(at(-1, 1, -1), 1), (at(0, 0, 0), 2)], false),
-        (&[(at(0, 0, 0), 1), (at(0, 0, 0), 2)], false),
-        (&[(at(1, 0, 0), 1)], false),
-        (&[(at(-1, 0, -1), 1), (at(0, 2, 0), 2)], false),
+        (&[([0, 1, 0], 9)], true),
+        (
+            &[
+                ([-1, 0, -1], 1),
+                ([0, 0, -1], 2),
+                ([-1, 0, 0], 3),
+                ([-1, 1, -1], 4),
+            ],
+            true,
+        ),
+        (&[([0, 0, -1], 1), ([-1, 0, -1], 2)], false),
+        (&[([-1, 1, -1], 1), ([0, 0, 0], 2)], false),
+        (&[([0, 0, 0], 1), ([0, 0, 0], 2)], false),
+        (&[([1, 0, 0], 1)], false),
+        (&[([-1, 0, -1], 1), ([0, 2, 0], 2)], false),
     ];
     for (placed, made) in cases {
         let grid = grid_with_entities(alloc, placed)?;
@@ -469,7 +520,7 @@ fn entities_of_a_grid_rise_in_index_order(rt: HostRuntime) -> Result<(), Fail> {
 }
 
 /// Each listed position has the entity of its byte, and no other block has one.
-fn assert_entities(rt: &impl Abort, grid: &Grid, placed: &[(Pos, u8)]) {
+fn assert_entities(rt: &impl Abort, grid: &Grid, placed: &[([i32; 3], u8)]) {
     for index in 0..grid.area().volume() {
         if let Some(p) = grid.area().position(index) {
             let wanted = byte_at(placed, p);
@@ -479,8 +530,8 @@ fn assert_entities(rt: &impl Abort, grid: &Grid, placed: &[(Pos, u8)]) {
     }
 }
 
-fn byte_at(placed: &[(Pos, u8)], p: Pos) -> Option<u8> {
-    let found = placed.iter().find(|placed| placed.0 == p)?;
+fn byte_at(placed: &[([i32; 3], u8)], p: Pos) -> Option<u8> {
+    let found = placed.iter().find(|placed| at(placed.0) == p)?;
     Some(found.1)
 }
 
