@@ -19,8 +19,6 @@ mod properties;
 mod region;
 mod script;
 mod step;
-#[cfg(test)]
-mod tests;
 mod world_box;
 
 pub use block_name::BlockName;
@@ -38,3 +36,6 @@ pub use region::{Kind, Region, Selection};
 pub use script::{Case, Command, Line, Script};
 pub use step::{Refusal, Spec, Step, Work};
 pub use world_box::WorldBox;
+
+#[cfg(test)]
+mod tests;
