@@ -1,3 +1,4 @@
 pub mod AreaLemmas
 pub mod WorldLemmas
 pub mod PatternLemmas
+pub mod Examples

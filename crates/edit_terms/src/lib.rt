@@ -36,3 +36,6 @@ pub use region::{Kind, Region, Selection};
 pub use script::{Case, Command, Line, Script};
 pub use step::{Refusal, Spec, Step, Work};
 pub use world_box::WorldBox;
+
+#[cfg(test)]
+mod tests;
