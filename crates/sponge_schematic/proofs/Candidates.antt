@@ -1,5 +1,5 @@
 -- What a file's parts give is what the file gives.
-use Rattle.std.proofs.Common.{◌≡◌, List, ℕ, ℤ, Option, Some, codes, refl}
+use Rattle.std.proofs.Common.{◌≡◌, List, ℕ, ℤ, Some, codes, refl}
 use Rattle.edit_terms.specs.Grid.{GridParts}
 use Rattle.sponge_schematic.specs.Reading.{behind, int_at, world_at, candidate}
 
