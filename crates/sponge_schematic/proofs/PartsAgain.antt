@@ -14,7 +14,7 @@ use Rattle.sponge_schematic.specs.Tags.{string, int, count, tag_name, short_tag,
 use Rattle.sponge_schematic.specs.Text.{state_text}
 use Rattle.sponge_schematic.specs.Varint.{varint}
 use Rattle.sponge_schematic.specs.Schematic.{box_tags, entry_tags, palette_tags, IsPlainState}
-use Rattle.sponge_schematic.specs.Reading.{◌>>=◌, behind, short_at, int_at, corner_at, world_box, box_at, text_at, named_state, entry_at, varint_at, times, palette_at, cells_at, grid_of, grid_at, world_at, candidate}
+use Rattle.sponge_schematic.specs.Candidate.{◌>>=◌, behind, short_at, int_at, corner_at, world_box, box_at, text_at, named_state, entry_at, varint_at, times, palette_at, cells_at, grid_of, grid_at, world_at, candidate}
 use Rattle.sponge_schematic.proofs.Entries.{bare_text}
 use Rattle.sponge_schematic.proofs.FieldsAgain.{behind_again, short_again, count_again, int_again, corner_again, text_again}
 use Rattle.sponge_schematic.proofs.CellsAgain.{varint_again, times_again}

@@ -21,8 +21,8 @@ use Rattle.block_palette.specs.Numbering.{distinct, numbers, number_in, IsNumber
 use Rattle.block_palette.proofs.Numbering.{length-distinct}
 use Rattle.block_palette.proofs.FirstAppearance.{IsNumbering-distinct, slice_get-numbers}
 use Rattle.sponge_schematic.specs.Schematic.{CarriedTags, Loaded, IsPlain, IsPlainState, IsPlainContent, IsPlainGrid, IsFileOf, schematic_bytes, states_of, palette_of}
-use Rattle.sponge_schematic.specs.Read.{IsCandidate, IsRefused}
-use Rattle.sponge_schematic.specs.Reading.{candidate, Fails}
+use Rattle.sponge_schematic.specs.Read.{IsRefused}
+use Rattle.sponge_schematic.specs.Candidate.{IsCandidate, candidate, Fails}
 use Rattle.sponge_schematic.specs.declared.fault.WorldFault.{WorldFault}
 use Rattle.sponge_schematic.specs.declared.fault.WorldFault.TheVariants as faults
 use Rattle.sponge_schematic.proofs.Worlds.{distinct_have, numbering_of}
