@@ -108,7 +108,7 @@ module _ (area : Area) (kinds : List State) (cells new : List ℕ) (selection : 
       let v = world_filled selection state w in
       let old : content_of w i ≡ without_entity kind = content_of-world_of (bare_grid area kinds cells) i within in
       let new : content_of v i ≡ cond selected (without_entity state) (content_of w i) =
-          get_or-map-range_with_len (λ j. cond (is_selected selection (position_of area j)) (without_entity state) (content_of w j)) 0 (volume area) i i air_content within (omega arith) in
+      get_or-map-range_with_len (λ j. cond (is_selected selection (position_of area j)) (without_entity state) (content_of w j)) 0 (volume area) i i air_content within (omega arith) in
       let told : get_or differs (get_or cells i 0) false ≡ not (same_state kind state) = ap (λ (d : List Bool). get_or d (get_or cells i 0) false) table ∙ get_or-map (λ k. not (same_state k state)) kinds (get_or cells i 0) air false number in
       listed_where_different (record { index = i; before = content_of w i; after = content_of v i }) (same_content (content_of w i) (content_of v i))
       ∙ ap (λ (b : BlockContent). not (same_content (content_of w i) b)) (new ∙ ap (λ (c : BlockContent). cond selected (without_entity state) c) old)
@@ -129,8 +129,8 @@ module _ (area : Area) (kinds : List State) (cells new : List ℕ) (selection : 
   paints_within = record {
     whole = paints.long ∙ numbered.whole;
     within = λ i inside.
-      let there : i < length cells = omega (arith, paints.long) in
-      subst (λ (n : ℕ). n < length (kinds ++ state ∷ [])) (sym (paints.each i there)) (by_test (is_selected selection (position_of area i)) i there);
+        let there : i < length cells = omega (arith, paints.long) in
+        subst (λ (n : ℕ). n < length (kinds ++ state ∷ [])) (sym (paints.each i there)) (by_test (is_selected selection (position_of area i)) i there);
   }
     where
       by_test : (b : Bool) (i : ℕ) → i < length cells → cond b (length kinds) (get_or cells i 0) < length (kinds ++ state ∷ [])

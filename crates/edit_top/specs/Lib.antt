@@ -1,2 +1,9 @@
 pub mod Canvas
 pub mod Plain
+pub mod RunText
+pub mod Words
+pub mod Status
+pub mod Reading
+pub mod Outputs
+pub mod Ends
+pub mod Prepared

@@ -151,7 +151,9 @@ fn is_selected_at(area: &WorldBox, selection: &Selection, index: u32) -> bool
 fn is_in_cuboid(first: &Pos, second: &Pos, p: &Pos) -> bool
     ensures { result ≡ is_in_shape Cuboid first.now second.now p.now }
 {
-    is_between_x(first, second, p) && is_between_y(first, second, p) && is_between_z(first, second, p)
+    is_between_x(first, second, p)
+        && is_between_y(first, second, p)
+        && is_between_z(first, second, p)
 }
 
 fn is_between_x(first: &Pos, second: &Pos, p: &Pos) -> bool

@@ -6,6 +6,16 @@
 #![tactic(auto)]
 
 mod canvas;
+mod fold;
+mod loading;
+mod outputs;
+mod run_text;
 mod session;
+mod status;
+mod telling;
+mod top_call;
+mod words;
 
 pub use memory::Memory;
+pub use status::Status;
+pub use top_call::run;

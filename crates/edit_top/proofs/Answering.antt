@@ -1,0 +1,76 @@
+-- A command of the private fold is the command of the definitions.
+use Rattle.std.proofs.Common.{◌≡◌, ℕ, ◌+◌, ◌<◌, Bool, true, false, cond, List, [], ◌∷◌, ◌++◌, length, map, get_or, Option, Some, None, refl, sym, ap, ◌∙◌, subst, arith}
+use Rattle.std.specs.Prelude.{All}
+use Rattle.std.specs.Option.{option_map_or}
+use Rattle.std.specs.List.{range_with_len}
+use Rattle.std.proofs.lemmas.List.Elements.{All-push}
+use Rattle.edit_terms.specs.declared.pos.Pos.{Pos}
+use Rattle.edit_terms.specs.declared.pattern.Pattern.{Pattern}
+use Rattle.edit_terms.specs.declared.pattern.Entry.{Entry}
+use Rattle.edit_terms.specs.declared.pattern.Value.{Value}
+use Rattle.edit_terms.specs.declared.pattern.Value.TheVariants.{Fixed}
+use Rattle.edit_terms.specs.declared.region.Selection.{Selection}
+use Rattle.edit_terms.specs.declared.region.Region.TheVariants.{Selected}
+use Rattle.edit_terms.specs.declared.script.Command.TheVariants.{Pos1, Pos2, Set}
+use Rattle.edit_terms.specs.declared.step.Step.{Step}
+use Rattle.edit_terms.specs.declared.step.Step.TheVariants.{Settled, Job, Refused as refused_step}
+use Rattle.edit_terms.specs.declared.step.Work.TheVariants.{Fill}
+use Rattle.edit_terms.specs.declared.step.Refusal.TheVariants.{NoSelection}
+use Rattle.edit_terms.specs.declared.outcome.Reply.{Reply}
+use Rattle.edit_terms.specs.declared.outcome.Reply.TheVariants.{Accepted, Changed, Refused}
+use Rattle.edit_terms.specs.Area.{volume, position_of}
+use Rattle.edit_terms.specs.StateText.{State}
+use Rattle.edit_terms.specs.Region.{is_selected}
+use Rattle.edit_terms.specs.Pattern.{pattern_value}
+use Rattle.edit_terms.specs.World.{BlockContent, World, without_entity}
+use Rattle.edit_terms.specs.Grid.{GridParts, world_of}
+use Rattle.edit_terms.proofs.PatternLemmas.{pattern_value-one}
+use Rattle.run_terms.specs.Session.{Session, selection_of, resolved_command, after_command, job_of}
+use Rattle.run_terms.specs.Effect.{content_of, filled, effect_at, world_with, world_after_step}
+use Rattle.run_terms.specs.Fold.{changes_between}
+use Rattle.run_terms.specs.Reply.{reply_to}
+use Rattle.edit_top.specs.Canvas.{world_filled, IsFilled, IsNumbered}
+use Rattle.command_syntax.specs.Command.{only}
+use Rattle.command_syntax.specs.Plain.{IsPlainPattern}
+use Rattle.edit_top.specs.Plain.{IsAnswered, AreBare}
+use Rattle.edit_top.proofs.Ranges.{map-range_agrees}
+
+-- a fill by a fixed state puts it everywhere in the region, for every seed and ticket
+pub world_with-fixed : (selection : Selection) (pattern : Pattern) (state : State) (seed ticket : ℕ) (w : World) → pattern ≡ only state
+    → world_with (Fill (Selected selection) pattern) seed ticket w ≡ world_filled selection state w
+world_with-fixed selection pattern state seed ticket w is_only =
+    ap (λ (cs : List BlockContent). record { area = w.area; contents = cs })
+    (map-range_agrees (effect_at (Fill (Selected selection) pattern) seed ticket w) (λ i. cond (is_selected selection (position_of w.area i)) (without_entity state) (content_of w i)) 0 (volume w.area)
+    (λ i low high. ap (λ (c : BlockContent). cond (is_selected selection (position_of w.area i)) c (content_of w i))
+    (pattern_value-one pattern (record { weight = 1; value = Fixed state }) seed ticket (position_of w.area i) (content_of w i) (ap (λ (p : Pattern). p.entries) is_only) (omega arith))))
+
+-- a bare list stays one with a bare state more
+pub bare_more : (kinds : List State) (state : State) → state.properties ≡ [] → AreBare kinds → AreBare (kinds ++ state ∷ [])
+bare_more kinds state bare each = All-push (λ (s : State). s.properties ≡ []) kinds state each bare
+
+-- what a filled canvas answers to a set with a selection
+pub set_is_answered : (s : Session) (old new : GridParts) (pattern : Pattern) (selection : Selection) (fixed : IsPlainPattern pattern) (changed : ℕ)
+    → selection_of s ≡ Some selection → IsFilled old new selection fixed.state changed → IsAnswered s s old new (Set pattern) (Changed changed)
+set_is_answered s old new pattern selection fixed changed selected fills =
+    let step : resolved_command s (Set pattern) ≡ job_of (Fill (Selected selection) pattern) = ap (λ (o : Option Selection). option_map_or (λ sel. job_of (Fill (Selected sel) pattern)) o (refused_step NoSelection)) selected in
+    record {
+      session = refl;
+      world = λ seed ticket. fills.world ∙ sym (world_with-fixed selection pattern fixed.state seed ticket (world_of old) fixed.only_entry)
+          ∙ ap (λ (t : Step). world_after_step t seed ticket (world_of old)) (sym step);
+      replied = ap Changed fills.changes ∙ ap (λ (t : Step). reply_to t (length (changes_between (world_of old) (world_of new)))) (sym step);
+      numbered = fills.numbered;
+      bare = λ each. subst (λ (ks : List State). AreBare ks) (sym fills.kinds) (bare_more old.kinds fixed.state fixed.no_properties each);
+    }
+
+-- the state of the one entry is the fixed one
+pub same_fixed : (pattern : Pattern) (fixed : IsPlainPattern pattern) (state : State) → pattern.entries ≡ record { weight = 1; value = Fixed state } ∷ [] → fixed.state ≡ state
+same_fixed pattern fixed state e =
+    let entries : (only fixed.state).entries ≡ (only state).entries = ap (λ (p : Pattern). p.entries) (sym fixed.only_entry) ∙ e in
+    state_in (ap first_value entries)
+  where
+    first_value : List Entry → Value
+    first_value [] = Fixed state
+    first_value (f ∷ fs) = f.value
+
+    state_in : (◌≡◌ {A = Value} (Fixed fixed.state) (Fixed state)) → fixed.state ≡ state
+    state_in h = cc

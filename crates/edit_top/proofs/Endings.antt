@@ -1,0 +1,88 @@
+-- How the parts of a run make its ending.
+use Rattle.std.proofs.Common.{◌≡◌, ℕ, ◌≤◌, List, [], ◌∷◌, ◌++◌, map, length, take, Option, Some, None, refl, sym, ap, ◌∙◌, subst, inl, inr, arith}
+use Rattle.std.specs.Option.{option_map}
+use Rattle.run_terms.specs.Reply.{final_world}
+use Rattle.run_ports.specs.Count.{Rose}
+use Rattle.run_ports.specs.Store.{Files, StoreState, IsLater, IsSaved, IsTorn, with_file}
+use Rattle.run_ports.specs.Output.{OutputState, IsAppended, IsPartlyAppended}
+use Rattle.sponge_schematic.specs.Schematic.{schematic_bytes}
+use Rattle.edit_top.specs.declared.top_call.Prepared.{Prepared}
+use Rattle.edit_top.specs.declared.status.Status.{Status}
+use Rattle.edit_top.specs.declared.status.Status.TheVariants.{Done, Usage, ReadFault, TooLong, WorldRefused, ScriptRefused, SaveFault, PrintFault, OutOfMemory}
+use Rattle.edit_top.specs.Words.{FileNames, names_of}
+use Rattle.edit_top.specs.Status.{fault_text}
+use Rattle.edit_top.specs.Outputs.{output_view, with_files, AreSaved, StopsSaving}
+use Rattle.edit_top.specs.Ends.{workload, IsRunOf, saved_file, printed_text, IsTold, Ends, IsDone, IsHalfSaved, IsHalfPrinted}
+use Rattle.edit_top.specs.Prepared.{IsPrepared, IsAllOut, IsSaveStopped, IsPrintStopped, Finishes}
+use Rattle.edit_top.proofs.Messages.{rose_since}
+
+-- the run that was prepared
+abbrev prepared_run : (words : List (List ℕ)) (names : FileNames) (told : Option Files) (prepared : Prepared) → names_of words ≡ Some names → IsPrepared names told prepared → IsRunOf words told
+prepared_run words names told prepared are made = record {
+  names = names;
+  are = are;
+  loaded = made.loaded;
+  script = made.script;
+  world = made.world;
+  read = made.read;
+  order = made.made.order;
+  legal = made.made.legal;
+  whole = made.made.whole;
+}
+
+-- one file alone is saved
+saved_one : (before after : Option Files) (name bytes : List ℕ) → AreSaved before after ((name, bytes) ∷ []) → IsSaved before after name bytes
+saved_one before after name bytes saved = saved
+
+-- nothing saved before a stop
+none_saved : (before between : Option Files) → AreSaved before between [] → between ≡ before
+none_saved None between saved = saved
+none_saved (Some files) between saved = saved
+
+-- a stop at the only file
+torn_one : (before after : StoreState) (name bytes : List ℕ) → StopsSaving before after ((name, bytes) ∷ []) → IsTorn before.files after.files name bytes × Rose (before.save_faults name) (after.save_faults name)
+torn_one before after name bytes stop = by_front stop.front stop.parts stop.saved
+  where
+    by_front : (front : List (List ℕ × List ℕ)) → (name, bytes) ∷ [] ≡ front ++ stop.output ∷ stop.rest → AreSaved before.files stop.between front → IsTorn before.files after.files name bytes × Rose (before.save_faults name) (after.save_faults name)
+    by_front [] parts saved =
+        let same : stop.output ≡ (name, bytes) = cc in
+        let torn : IsTorn stop.between after.files name bytes = subst (λ (o : List ℕ × List ℕ). IsTorn stop.between after.files o.0 o.1) same stop.torn in (
+          subst (λ (f : Option Files). IsTorn f after.files name bytes) (none_saved before.files stop.between saved) torn,
+          subst (λ (o : List ℕ × List ℕ). Rose (before.save_faults o.0) (after.save_faults o.0)) same stop.rose,
+        )
+    by_front (o ∷ []) parts saved = absurd cc
+    by_front (o ∷ p ∷ front) parts saved = absurd cc
+
+-- a run that was prepared ends as its saves and its print do
+module _ (words : List (List ℕ)) (names : FileNames) (are : names_of words ≡ Some names) (before mid after : StoreState) (stays : mid.files ≡ before.files) (later : IsLater before mid) (shown told : OutputState) (prepared : Prepared) (made : IsPrepared names before.files prepared) where
+  saved_here : AreSaved mid.files after.files (map output_view prepared.outputs.items) → IsSaved before.files after.files names.out (saved_file (prepared_run words names before.files prepared are made))
+  saved_here saved =
+      let by_outputs = subst (λ (os : List (List ℕ × List ℕ)). AreSaved mid.files after.files os) made.made.outputs saved in
+      subst (λ (f : Option Files). IsSaved f after.files names.out (saved_file (prepared_run words names before.files prepared are made))) stays by_outputs
+
+  pub ends_finished : (status : Status) → Finishes names prepared mid after shown told status → Ends words before after shown told status
+  ends_finished Done f = record {
+    run = prepared_run words names before.files prepared are made;
+    saved = saved_here f.saved;
+    printed = subst (λ (t : List ℕ). IsAppended shown.written told.written t) made.made.text f.printed;
+  }
+  ends_finished SaveFault f =
+      let stop = torn_one mid after names.out (saved_file (prepared_run words names before.files prepared are made)) (subst (λ (os : List (List ℕ × List ℕ)). StopsSaving mid after os) made.made.outputs f.stopped) in
+      record {
+        run = prepared_run words names before.files prepared are made;
+        rose = rose_since (before.save_faults names.out) (mid.save_faults names.out) (after.save_faults names.out) (later.save_faults names.out) stop.1;
+        torn = subst (λ (g : Option Files). IsTorn g after.files names.out (saved_file (prepared_run words names before.files prepared are made))) stays stop.0;
+        message = f.message;
+      }
+  ends_finished PrintFault f = record {
+    run = prepared_run words names before.files prepared are made;
+    rose = f.rose;
+    saved = saved_here f.saved;
+    partly = subst (λ (t : List ℕ). IsPartlyAppended shown.written told.written t) made.made.text f.partly;
+  }
+  ends_finished Usage f = absurd f
+  ends_finished (ReadFault file) f = absurd f
+  ends_finished (TooLong file) f = absurd f
+  ends_finished (WorldRefused fault) f = absurd f
+  ends_finished (ScriptRefused script fault) f = absurd f
+  ends_finished OutOfMemory f = absurd f

@@ -1,0 +1,125 @@
+-- The end-to-end theorem: what stands after each ending of a run, and why it came.
+use Rattle.std.specs.Prelude.{◌≡◌, ℕ, ◌≤◌, ◌⊎◌, List, [], ◌∷◌, length, take, Option, Some, None}
+use Rattle.edit_terms.specs.declared.script.Script.{Script}
+use Rattle.run_terms.specs.Workload.{Workload}
+use Rattle.run_terms.specs.Order.{IsLegalOrder, IsWholeOrder}
+use Rattle.run_terms.specs.Reply.{final_world}
+use Rattle.run_ports.specs.Count.{Rose}
+use Rattle.run_ports.specs.Store.{Files, StoreState, IsSaved, IsTorn}
+use Rattle.run_ports.specs.Output.{OutputState, IsAppended, IsPartlyAppended}
+use Rattle.sponge_schematic.specs.Schematic.{Loaded, schematic_bytes}
+use Rattle.edit_top.specs.declared.status.Status.{Status}
+use Rattle.edit_top.specs.declared.status.Status.TheVariants.{Done, Usage, ReadFault, TooLong, WorldRefused, ScriptRefused, SaveFault, PrintFault, OutOfMemory}
+use Rattle.edit_top.specs.Words.{FileNames, names_of}
+use Rattle.edit_top.specs.Status.{fault_text, usage_text}
+use Rattle.edit_top.specs.RunText.{run_text}
+use Rattle.edit_top.specs.Reading.{HasWorld, HasScript, IsCause}
+
+-- the workload of a world and one script: seed 0, and a history of 15 edits
+abbrev pub workload : Loaded → Script → Workload
+workload loaded script = record { opening = loaded.world; scripts = script ∷ []; seed = 0; depth = 15 }
+
+-- A run of these words over these files: the world and the script that were read, and one order of all commands.
+pub record IsRunOf (words : List (List ℕ)) (told : Option Files) : Type 0 where
+  pub names : FileNames
+  pub are : names_of words ≡ Some names
+  pub loaded : Loaded
+  pub script : Script
+  pub world : HasWorld told names loaded
+  pub read : HasScript told names script
+  pub order : List ℕ
+  pub legal : IsLegalOrder (script ∷ []) order
+  pub whole : IsWholeOrder (script ∷ []) order
+
+module _ {words : List (List ℕ)} {told : Option Files} where
+  -- the file of the world that the order leaves
+  abbrev pub saved_file : IsRunOf words told → List ℕ
+  saved_file run = schematic_bytes run.loaded.carried (final_world (workload run.loaded run.script) run.order)
+
+  -- the text of the order and its replies
+  abbrev pub printed_text : IsRunOf words told → List ℕ
+  printed_text run = run_text (workload run.loaded run.script) run.order
+
+-- a prefix of the message was put, and all of it where the output's faults didn't rise
+pub record IsTold (before after : OutputState) (text : List ℕ) : Type 0 where
+  pub kept : ℕ
+  pub part : IsAppended before.written after.written (take kept text)
+  pub whole : (length text ≤ kept) ⊎ Rose before.faults after.faults
+
+-- Done: OUT holds exactly the file of the order's world, all other files are as before, and exactly the text of that
+-- order and its replies was put.
+pub record IsDone (words : List (List ℕ)) (before after : StoreState) (shown told : OutputState) : Type 0 where
+  pub run : IsRunOf words before.files
+  pub saved : IsSaved before.files after.files run.names.out (saved_file run)
+  pub printed : IsAppended shown.written told.written (printed_text run)
+
+-- the save failed: OUT holds a prefix of the file or what it held, and its failure was counted
+pub record IsHalfSaved (words : List (List ℕ)) (before after : StoreState) (shown told : OutputState) : Type 0 where
+  pub run : IsRunOf words before.files
+  pub rose : Rose (before.save_faults run.names.out) (after.save_faults run.names.out)
+  pub torn : IsTorn before.files after.files run.names.out (saved_file run)
+  pub message : IsTold shown told (fault_text run.names SaveFault)
+
+-- the print failed: the file is saved whole, a prefix of the text was put, and the failure was counted
+pub record IsHalfPrinted (words : List (List ℕ)) (before after : StoreState) (shown told : OutputState) : Type 0 where
+  pub run : IsRunOf words before.files
+  pub rose : Rose shown.faults told.faults
+  pub saved : IsSaved before.files after.files run.names.out (saved_file run)
+  pub partly : IsPartlyAppended shown.written told.written (printed_text run)
+
+-- the words aren't of the form
+pub record IsMisused (words : List (List ℕ)) (before after : StoreState) (shown told : OutputState) : Type 0 where
+  pub words_are : names_of words ≡ None
+  pub stays : after.files ≡ before.files
+  pub message : IsTold shown told usage_text
+
+-- a refusal before the save: it has its cause, and the files are as before
+pub record IsStopped (words : List (List ℕ)) (before after : StoreState) (shown told : OutputState) (status : Status) : Type 0 where
+  pub names : FileNames
+  pub are : names_of words ≡ Some names
+  pub cause : IsCause names before after status
+  pub stays : after.files ≡ before.files
+  pub message : IsTold shown told (fault_text names status)
+
+-- Each ending of a run of these words, between two states of the file store and of the output.
+abbrev pub Ends : List (List ℕ) → StoreState → StoreState → OutputState → OutputState → Status → Type 0
+Ends words before after shown told Done = IsDone words before after shown told
+Ends words before after shown told SaveFault = IsHalfSaved words before after shown told
+Ends words before after shown told PrintFault = IsHalfPrinted words before after shown told
+Ends words before after shown told Usage = IsMisused words before after shown told
+Ends words before after shown told (ReadFault file) = IsStopped words before after shown told (ReadFault file)
+Ends words before after shown told (TooLong file) = IsStopped words before after shown told (TooLong file)
+Ends words before after shown told (WorldRefused fault) = IsStopped words before after shown told (WorldRefused fault)
+Ends words before after shown told (ScriptRefused script fault) = IsStopped words before after shown told (ScriptRefused script fault)
+Ends words before after shown told OutOfMemory = IsStopped words before after shown told OutOfMemory
+
+-- Nothing outside failed: no count of failures rose, of loads of the world and the script, of saves of OUT, and of the
+-- output.
+pub record NothingFailed (before after : StoreState) (shown told : OutputState) : Type 0 where
+  pub loads : (name : List ℕ) → ¬ Rose (before.faults name) (after.faults name)
+  pub saves : (name : List ℕ) → ¬ Rose (before.save_faults name) (after.save_faults name)
+  pub puts : ¬ Rose shown.faults told.faults
+
+-- an ending that no outside failure caused
+abbrev pub IsNoFailure : Status → Type 0
+IsNoFailure (ReadFault file) = ⊥
+IsNoFailure SaveFault = ⊥
+IsNoFailure PrintFault = ⊥
+IsNoFailure _ = Unit {0}
+
+-- Good words over told files that hold a plain world and a plain script, each within its limit.
+pub record IsGood (words : List (List ℕ)) (told : Option Files) : Type 0 where
+  pub files : Files
+  pub tells : told ≡ Some files
+  pub names : FileNames
+  pub are : names_of words ≡ Some names
+  pub loaded : Loaded
+  pub world : HasWorld told names loaded
+  pub script : Script
+  pub read : HasScript told names script
+
+-- the run ended well, or an allocation was refused
+abbrev pub IsDoneOrMemory : Status → Type 0
+IsDoneOrMemory Done = Unit {0}
+IsDoneOrMemory OutOfMemory = Unit {0}
+IsDoneOrMemory _ = ⊥

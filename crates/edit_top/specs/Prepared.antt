@@ -1,0 +1,57 @@
+-- What a run has made before its first save, and what it does with it.
+use Rattle.std.specs.Prelude.{◌≡◌, ℕ, List, [], ◌∷◌, map, Option}
+use Rattle.edit_terms.specs.declared.script.Script.{Script}
+use Rattle.run_terms.specs.Order.{IsLegalOrder, IsWholeOrder}
+use Rattle.run_terms.specs.Reply.{final_world}
+use Rattle.run_ports.specs.Count.{Rose}
+use Rattle.run_ports.specs.Store.{Files, StoreState}
+use Rattle.run_ports.specs.Output.{OutputState, IsAppended, IsPartlyAppended}
+use Rattle.sponge_schematic.specs.Schematic.{Loaded, schematic_bytes}
+use Rattle.edit_top.specs.declared.top_call.Prepared.{Prepared}
+use Rattle.edit_top.specs.declared.status.Status.{Status}
+use Rattle.edit_top.specs.declared.status.Status.TheVariants.{Done, SaveFault, PrintFault}
+use Rattle.edit_top.specs.Words.{FileNames}
+use Rattle.edit_top.specs.Status.{fault_text}
+use Rattle.edit_top.specs.RunText.{run_text}
+use Rattle.edit_top.specs.Reading.{HasWorld, HasScript}
+use Rattle.edit_top.specs.Outputs.{output_view, AreSaved, StopsSaving}
+use Rattle.edit_top.specs.Ends.{workload, IsTold}
+
+-- the file and the text of one order of a script's commands over a world
+pub record IsMade (names : FileNames) (loaded : Loaded) (script : Script) (prepared : Prepared) : Type 0 where
+  pub order : List ℕ
+  pub legal : IsLegalOrder (script ∷ []) order
+  pub whole : IsWholeOrder (script ∷ []) order
+  pub outputs : map output_view prepared.outputs.items ≡ (names.out, schematic_bytes loaded.carried (final_world (workload loaded script) order)) ∷ []
+  pub text : prepared.text.items ≡ run_text (workload loaded script) order
+
+-- the same of the world and the script that were read
+pub record IsPrepared (names : FileNames) (told : Option Files) (prepared : Prepared) : Type 0 where
+  pub loaded : Loaded
+  pub script : Script
+  pub world : HasWorld told names loaded
+  pub read : HasScript told names script
+  pub made : IsMade names loaded script prepared
+
+-- all is saved and the whole text is put
+pub record IsAllOut (before after : StoreState) (shown told : OutputState) (prepared : Prepared) : Type 0 where
+  pub saved : AreSaved before.files after.files (map output_view prepared.outputs.items)
+  pub printed : IsAppended shown.written told.written prepared.text.items
+
+-- a save failed, and the message was put
+pub record IsSaveStopped (names : FileNames) (before after : StoreState) (shown told : OutputState) (prepared : Prepared) : Type 0 where
+  pub stopped : StopsSaving before after (map output_view prepared.outputs.items)
+  pub message : IsTold shown told (fault_text names SaveFault)
+
+-- all is saved, and a prefix of the text was put
+pub record IsPrintStopped (before after : StoreState) (shown told : OutputState) (prepared : Prepared) : Type 0 where
+  pub saved : AreSaved before.files after.files (map output_view prepared.outputs.items)
+  pub partly : IsPartlyAppended shown.written told.written prepared.text.items
+  pub rose : Rose shown.faults told.faults
+
+-- how the saves and the print ended
+abbrev pub Finishes : FileNames → Prepared → StoreState → StoreState → OutputState → OutputState → Status → Type 0
+Finishes names prepared before after shown told Done = IsAllOut before after shown told prepared
+Finishes names prepared before after shown told SaveFault = IsSaveStopped names before after shown told prepared
+Finishes names prepared before after shown told PrintFault = IsPrintStopped before after shown told prepared
+Finishes names prepared before after shown told _ = ⊥

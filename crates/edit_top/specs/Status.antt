@@ -1,0 +1,37 @@
+-- The exit status of each ending, and the message that a refusal prints.
+use Rattle.std.specs.Prelude.{ℕ, zero, suc, List, [], ◌++◌, codes}
+use Rattle.edit_top.specs.declared.status.Status.{Status}
+use Rattle.edit_top.specs.declared.status.Status.TheVariants.{Done, Usage, ReadFault, TooLong, WorldRefused, ScriptRefused, SaveFault, PrintFault, OutOfMemory}
+use Rattle.edit_top.specs.Words.{FileNames}
+
+abbrev pub code_of : Status → ℕ
+code_of Done = 0
+code_of Usage = 2
+code_of (ReadFault file) = 3
+code_of (TooLong file) = 4
+code_of (WorldRefused fault) = 5
+code_of (ScriptRefused script fault) = 6
+code_of SaveFault = 9
+code_of PrintFault = 10
+code_of OutOfMemory = 11
+
+-- the name of a file by its number: the world is 0, the script 1
+abbrev pub file_name : FileNames → ℕ → List ℕ
+file_name names zero = names.world
+file_name names (suc script) = names.script
+
+-- the message of an ending under these names; nothing after a whole text or a failing print
+abbrev pub fault_text : FileNames → Status → List ℕ
+fault_text names Done = []
+fault_text names Usage = codes "fault: usage: run WORLD OUT SCRIPT\n"
+fault_text names (ReadFault file) = codes "fault: cannot read " ++ file_name names file ++ codes "\n"
+fault_text names (TooLong file) = codes "fault: too long: " ++ file_name names file ++ codes "\n"
+fault_text names (WorldRefused fault) = codes "fault: world: not built\n"
+fault_text names (ScriptRefused script fault) = codes "fault: script " ++ file_name names script ++ codes ": not built\n"
+fault_text names SaveFault = codes "fault: cannot save " ++ names.out ++ codes "\n"
+fault_text names PrintFault = []
+fault_text names OutOfMemory = codes "fault: memory\n"
+
+-- the message where the words aren't of the form
+abbrev pub usage_text : List ℕ
+usage_text = codes "fault: usage: run WORLD OUT SCRIPT\n"

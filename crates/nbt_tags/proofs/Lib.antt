@@ -1,0 +1,14 @@
+pub mod Numbers
+pub mod TakenNames
+pub mod Steps
+pub mod Both
+pub mod FieldReads
+pub mod LeafReads
+pub mod ListReads
+pub mod RowReads
+pub mod TreeReads
+pub mod WrittenTags
+pub mod Fits
+pub mod Spelled
+pub mod Whole
+pub mod RowSteps

@@ -1,0 +1,7 @@
+pub mod Kinds
+pub mod Spelling
+pub mod Reading
+pub mod Room
+pub mod Taken
+pub mod WellFormed
+pub mod Written
