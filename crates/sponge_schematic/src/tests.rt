@@ -143,6 +143,42 @@ fn assert_same(rt: &impl Abort, a: &Grid, b: &Grid) -> Result<(), Fail> {
     Ok(())
 }
 
+/// Where some parts of the file of that box stand, and what they are.
+fn box_parts() -> [(usize, &'static [u8]); 10] {
+    [
+        (40, b"\xFF\xFF\xFF\xFE\x02".as_slice()),
+        (52, b"\x00\x21\x02".as_slice()),
+        (63, b"\x00\x04\x02".as_slice()),
+        (74, b"\x00\x12\x0B".as_slice()),
+        (
+            89,
+            b"\xFF\xFF\xFF\xEC\xFF\xFF\xFF\xFD\xFF\xFF\xFF\xFB".as_slice(),
+        ),
+        (114, b"\x00\x00\x00\x02".as_slice()),
+        (
+            128,
+            b"\x03\x00\x0Fminecraft:stone\x00\x00\x00\x00".as_slice(),
+        ),
+        (
+            150,
+            b"\x03\x00\x0Eminecraft:dirt\x00\x00\x00\x01\x00".as_slice(),
+        ),
+        (184, b"\x00\x00\x09\x48".as_slice()),
+        (2564, b"\x00".as_slice()),
+    ]
+}
+
+fn assert_parts(rt: &impl Abort, bytes: &[u8], data: &[u8]) -> Result<(), Fail> {
+    for (from, wanted) in box_parts() {
+        let found = bytes.get(from..).ok_or("a part of the file")?;
+        assert!(rt; found.starts_with(wanted), "at {from}");
+    }
+    let found = bytes.get(188..).ok_or("a part of the file")?;
+    assert!(rt; found.starts_with(data), "the block data");
+    assert_eq!(rt; bytes.len(), 2565);
+    Ok(())
+}
+
 #[test]
 fn a_box_over_several_chunks_is_written_in_index_order(rt: HostRuntime) -> Result<(), Fail> {
     let alloc = rt.alloc();
@@ -169,32 +205,7 @@ fn a_box_over_several_chunks_is_written_in_index_order(rt: HostRuntime) -> Resul
     let grid = plain_grid(alloc, area, kinds, cells)?;
     let carried = Carried { data_version: -2 };
     let bytes = write_world(alloc, &carried, &grid)?;
-    for (from, wanted) in [
-        (40, b"\xFF\xFF\xFF\xFE\x02".as_slice()),
-        (52, b"\x00\x21\x02".as_slice()),
-        (63, b"\x00\x04\x02".as_slice()),
-        (74, b"\x00\x12\x0B".as_slice()),
-        (
-            89,
-            b"\xFF\xFF\xFF\xEC\xFF\xFF\xFF\xFD\xFF\xFF\xFF\xFB".as_slice(),
-        ),
-        (114, b"\x00\x00\x00\x02".as_slice()),
-        (
-            128,
-            b"\x03\x00\x0Fminecraft:stone\x00\x00\x00\x00".as_slice(),
-        ),
-        (
-            150,
-            b"\x03\x00\x0Eminecraft:dirt\x00\x00\x00\x01\x00".as_slice(),
-        ),
-        (184, b"\x00\x00\x09\x48".as_slice()),
-        (188, data.as_slice()),
-        (2564, b"\x00".as_slice()),
-    ] {
-        let found = bytes.get(from..).ok_or("a part of the file")?;
-        assert!(rt; found.starts_with(wanted), "at {from}");
-    }
-    assert_eq!(rt; bytes.len(), 2565);
+    assert_parts(&rt, &bytes, &data)?;
     let world = read(&rt, alloc, &bytes)?;
     assert_eq!(rt; world.carried.data_version, -2);
     assert_eq!(rt; world.grid.kinds().len(), 2);
@@ -239,11 +250,9 @@ fn long_varints_are_written_and_read(rt: HostRuntime) -> Result<(), Fail> {
     assert_same(&rt, &grid, &world.grid)
 }
 
-#[test]
-fn other_bytes_are_unbuilt(rt: HostRuntime) -> Result<(), Fail> {
-    let alloc = rt.alloc();
-    let swapped = joined(alloc, part(one_dirt(), 54, 65)?, part(one_dirt(), 44, 54)?)?;
-    let cases: [(&str, usize, usize, &[u8]); 17] = [
+/// What is wrong after an edit of the file, and the edit: from where to where, and the new bytes.
+fn edits() -> [(&'static str, usize, usize, &'static [u8]); 16] {
+    [
         ("empty", 0, 168, b""),
         ("gzip", 0, 168, b"\x1F\x8B"),
         ("a trailing byte", 168, 168, b"\x00"),
@@ -251,7 +260,6 @@ fn other_bytes_are_unbuilt(rt: HostRuntime) -> Result<(), Fail> {
         ("another version", 25, 26, b"\x03"),
         ("no width", 52, 54, b"\x00\x00"),
         ("off the map", 89, 91, b"\x7F\xFF"),
-        ("another order of tags", 44, 65, swapped.as_slice()),
         ("another count of entries", 117, 118, b"\x02"),
         (
             "a state with properties",
@@ -271,8 +279,16 @@ fn other_bytes_are_unbuilt(rt: HostRuntime) -> Result<(), Fail> {
         ("a number without an entry", 166, 167, b"\x01"),
         ("no data", 165, 167, b"\x00"),
         ("another tag", 167, 167, b"\x01\x00\x01a\x00"),
-    ];
-    for (what, at, end, other) in cases {
+    ]
+}
+
+#[test]
+fn other_bytes_are_unbuilt(rt: HostRuntime) -> Result<(), Fail> {
+    let alloc = rt.alloc();
+    let swapped = joined(alloc, part(one_dirt(), 54, 65)?, part(one_dirt(), 44, 54)?)?;
+    let bytes = edited(alloc, 44, 65, &swapped)?;
+    assert!(rt; is_unbuilt(&rt, alloc, &bytes), "another order of tags");
+    for (what, at, end, other) in edits() {
         let bytes = edited(alloc, at, end, other)?;
         assert!(rt; is_unbuilt(&rt, alloc, &bytes), "{what}");
     }
