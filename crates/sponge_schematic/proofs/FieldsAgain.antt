@@ -1,5 +1,5 @@
 -- A field that was written is read again.
-use Rattle.std.proofs.Common.{◌≡◌, ℕ, zero, suc, ◌+◌, ◌*◌, ◌^◌, ◌<◌, ◌≤◌, Bool, true, false, cond, ltb, List, [], ◌∷◌, ◌++◌, length, take, drop, Option, Some, ℤ, pos, negsuc, codes, refl, sym, ap, ◌∙◌, append_assoc, arith, FitsSigned, to_z, of_z}
+use Rattle.std.proofs.Common.{◌≡◌, ℕ, ◌+◌, ◌^◌, ◌<◌, false, ltb, List, [], ◌∷◌, ◌++◌, length, Option, Some, ℤ, pos, codes, refl, ap, ◌∙◌, append_assoc, arith, FitsSigned, to_z, of_z}
 use Rattle.std.specs.Int.{Width, w16, w32, byte_len, from_be_bytes, to_be_bytes}
 use Rattle.std.proofs.Math.Facts.{Fits-of_z}
 use Rattle.std.proofs.lemmas.Int.{to_z-of_z}
@@ -8,7 +8,7 @@ use Rattle.std.proofs.lemmas.List.{take_at, drop_at, length-append, append-nil}
 use Rattle.std.proofs.lemmas.Nat.{from_be_bytes-to_be_bytes_2, from_be_bytes-to_be_bytes_4}
 use Rattle.edit_terms.specs.declared.pos.Pos.{Pos}
 use Rattle.sponge_schematic.specs.Tags.{string, int, count, tag_name, short_tag, int_tag, int_array_tag}
-use Rattle.sponge_schematic.specs.Reading.{◌>>=◌, behind, number_at, signed_at, short_at, count_at, int_at, corner_at, text_at}
+use Rattle.sponge_schematic.specs.Candidate.{◌>>=◌, behind, number_at, signed_at, short_at, count_at, int_at, corner_at, text_at}
 
 pub behind_again : (front rest : List ℕ) (n : ℕ) → length front ≡ n → behind n (front ++ rest) ≡ Some rest
 behind_again front rest n len =

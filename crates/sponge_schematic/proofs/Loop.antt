@@ -3,7 +3,7 @@ use Rattle.std.proofs.Common.{◌≡◌, ℕ, suc, ◌-◌, ◌+◌, ◌≤◌, 
 use Rattle.std.proofs.lemmas.List.{append-nil}
 use Rattle.sponge_schematic.specs.declared.fault.WorldFault.{WorldFault}
 use Rattle.sponge_schematic.specs.declared.fault.WorldFault.TheVariants as faults
-use Rattle.sponge_schematic.specs.Reading.{◌>>=◌, Fails, times}
+use Rattle.sponge_schematic.specs.Candidate.{◌>>=◌, Fails, times}
 
 -- what was read before, and what is still read
 abbrev pub with_front : {A : Type 0} → List A → Option (List A × List ℕ) → Option (List A × List ℕ)

@@ -1,20 +1,20 @@
 -- The parts of a plain file are read again: the box, the palette, the block data, and the file.
-use Rattle.std.proofs.Common.{◌≡◌, ℕ, zero, suc, ◌+◌, ◌*◌, ◌^◌, ◌<◌, ◌≤◌, Bool, true, false, cond, List, [], ◌∷◌, ◌++◌, length, map, Option, Some, None, All, ℤ, pos, negsuc, codes, refl, sym, ap, ◌∙◌, append_assoc, arith, FitsSigned}
+use Rattle.std.proofs.Common.{◌≡◌, ℕ, ◌+◌, ◌^◌, ◌<◌, ◌≤◌, Bool, true, cond, List, [], ◌∷◌, ◌++◌, length, Option, Some, None, All, ℤ, pos, negsuc, codes, refl, sym, ap, ◌∙◌, append_assoc, arith, FitsSigned}
 use Rattle.std.specs.List.{flat_map}
 use Rattle.std.specs.Int.{w32}
 use Rattle.std.proofs.lemmas.Int.{ints}
 use Rattle.std.proofs.lemmas.Bool.{leb-true}
 use Rattle.std.proofs.lemmas.List.Elements.{All-head, All-tail}
 use Rattle.edit_terms.specs.declared.pos.Pos.{Pos}
-use Rattle.edit_terms.specs.Area.{Area, volume, is_world_box, is_within}
-use Rattle.edit_terms.specs.StateText.{State, is_block_name, is_split_at}
+use Rattle.edit_terms.specs.Area.{Area, volume, is_world_box}
+use Rattle.edit_terms.specs.StateText.{State, is_block_name}
 use Rattle.edit_terms.specs.Grid.{GridParts, is_numbered}
 use Rattle.edit_terms.proofs.AreaLemmas.{and_both, limits, on_map, IsInRange}
 use Rattle.sponge_schematic.specs.Tags.{string, int, count, tag_name, short_tag, int_tag, byte_array_tag, int_array_tag, compound_tag}
 use Rattle.sponge_schematic.specs.Text.{state_text}
 use Rattle.sponge_schematic.specs.Varint.{varint}
 use Rattle.sponge_schematic.specs.Schematic.{box_tags, entry_tags, palette_tags, IsPlainState}
-use Rattle.sponge_schematic.specs.Reading.{◌>>=◌, behind, short_at, count_at, int_at, corner_at, world_box, box_at, text_at, named_state, entry_at, varint_at, times, palette_at, cells_at, grid_of, grid_at, world_at, candidate}
+use Rattle.sponge_schematic.specs.Candidate.{◌>>=◌, behind, short_at, int_at, corner_at, world_box, box_at, text_at, named_state, entry_at, varint_at, times, palette_at, cells_at, grid_of, grid_at, world_at, candidate}
 use Rattle.sponge_schematic.proofs.Entries.{bare_text}
 use Rattle.sponge_schematic.proofs.FieldsAgain.{behind_again, short_again, count_again, int_again, corner_again, text_again}
 use Rattle.sponge_schematic.proofs.CellsAgain.{varint_again, times_again}

@@ -1,17 +1,17 @@
 -- A plain file gives its version and a grid of its world, so it is the file of one world alone.
-use Rattle.std.proofs.Common.{◌≡◌, ℕ, zero, suc, ◌+◌, ◌*◌, ◌^◌, ◌<◌, ◌≤◌, Bool, true, false, List, [], ◌∷◌, length, map, get_or, Option, Some, None, slice_get, not, All, ℤ, refl, sym, ap, subst, ◌∙◌, arith}
-use Rattle.std.specs.List.{range_with_len, list_all, AllZip}
+use Rattle.std.proofs.Common.{◌≡◌, ℕ, ◌^◌, ◌<◌, ◌≤◌, true, List, [], ◌∷◌, length, map, get_or, Option, Some, None, slice_get, not, All, ℤ, refl, sym, ap, subst, ◌∙◌, arith}
+use Rattle.std.specs.List.{list_all, AllZip}
 use Rattle.std.specs.Prelude.{nat_lt, FitsSigned}
 use Rattle.std.specs.Int.{w32}
 use Rattle.std.specs.Cmp.Derive.{both_true}
 use Rattle.std.proofs.lemmas.Bool.{eq-eqb, lt-ltb}
 use Rattle.std.proofs.lemmas.Option.{get_or_from_slice_get, slice_get_within}
-use Rattle.std.proofs.lemmas.List.{length-map, get_or-map, get_or_past}
+use Rattle.std.proofs.lemmas.List.{length-map, get_or-map}
 use Rattle.std.proofs.lemmas.List.Elements.{All-map, All-weaker, All-get_or, All-from_get_or}
 use Rattle.std.proofs.lemmas.List.FromFn.{fill_by_all, length-map-range_with_len, get_or-map-range_with_len}
 use Rattle.std.proofs.lemmas.List.Sums.{prefix_len-le-length}
 use Rattle.edit_terms.specs.declared.pos.Pos.{Pos}
-use Rattle.edit_terms.specs.Area.{Area, volume, is_world_box, position_of}
+use Rattle.edit_terms.specs.Area.{Area, volume, position_of}
 use Rattle.edit_terms.specs.StateText.{State, air}
 use Rattle.edit_terms.specs.Same.{same_state, state_equivalence, state_decides}
 use Rattle.edit_terms.specs.World.{BlockContent, World, EntityTags, air_content}
@@ -21,11 +21,11 @@ use Rattle.block_palette.specs.Numbering.{distinct, numbers, number_in, IsNumber
 use Rattle.block_palette.proofs.Numbering.{length-distinct}
 use Rattle.block_palette.proofs.FirstAppearance.{IsNumbering-distinct, slice_get-numbers}
 use Rattle.sponge_schematic.specs.Schematic.{CarriedTags, Loaded, IsPlain, IsPlainState, IsPlainContent, IsPlainGrid, IsFileOf, schematic_bytes, states_of, palette_of}
-use Rattle.sponge_schematic.specs.Read.{IsCandidate, IsRefused}
-use Rattle.sponge_schematic.specs.Reading.{candidate, Fails}
+use Rattle.sponge_schematic.specs.Read.{IsRefused}
+use Rattle.sponge_schematic.specs.Candidate.{IsCandidate, candidate, Fails}
 use Rattle.sponge_schematic.specs.declared.fault.WorldFault.{WorldFault}
 use Rattle.sponge_schematic.specs.declared.fault.WorldFault.TheVariants as faults
-use Rattle.sponge_schematic.proofs.Worlds.{distinct_have, IsNumbered, numbering_of}
+use Rattle.sponge_schematic.proofs.Worlds.{distinct_have, numbering_of}
 use Rattle.sponge_schematic.proofs.PartsAgain.{parts_again}
 
 -- the grid of a world's palette and numbers

@@ -1,13 +1,13 @@
 -- The table from kinds to numbers: what it says of a kind is the kind's number, and goes on being so as the palette
 -- grows.
-use Rattle.std.proofs.Common.{◌≡◌, ℕ, zero, suc, ◌+◌, ◌<◌, ◌≤◌, ◌^◌, Bool, true, false, cond, List, [], ◌∷◌, ◌++◌, length, take, drop, get_or, set, replicate, Option, Some, None, slice_get, refl, sym, ap, subst, ◌∙◌, arith, inl, inr}
+use Rattle.std.proofs.Common.{◌≡◌, ℕ, zero, suc, ◌<◌, Bool, true, false, List, [], ◌∷◌, ◌++◌, length, take, drop, get_or, set, replicate, Option, Some, None, slice_get, refl, sym, ap, subst, ◌∙◌, arith, inl, inr}
 use Rattle.std.specs.Cmp.{IsEquivalence}
-use Rattle.std.specs.List.{list_any, position_or_len, AllByRecursion, IsDistinct}
+use Rattle.std.specs.List.{list_any, AllByRecursion, IsDistinct}
 use Rattle.std.proofs.lemmas.List.{take-append-drop, get_or-set_same, get_or-set_other, length-set, get_or-replicate, get_or_past, length-replicate}
 use Rattle.std.proofs.lemmas.Bool.{cases_eq, cases_lt}
 use Rattle.std.proofs.Math.Bool.{or-true}
 use Rattle.edit_terms.specs.StateText.{State, air}
-use Rattle.edit_terms.specs.Same.{same_state, state_equivalence, state_decides}
+use Rattle.edit_terms.specs.Same.{same_state, state_equivalence}
 use Rattle.block_palette.specs.Numbering.{number_in, with_entry}
 use Rattle.sponge_schematic.specs.Numbers.{IsTable}
 

@@ -1,6 +1,6 @@
 -- A grid's world in the words of its file: the states of its blocks are the grid's kinds by number.
-use Rattle.std.proofs.Common.{◌≡◌, ℕ, ◌+◌, ◌<◌, ◌≤◌, Bool, true, false, List, [], ◌∷◌, ◌++◌, length, map, take, get_or, All, Some, slice_get, refl, sym, ap, subst, ◌∙◌, arith}
-use Rattle.std.specs.List.{range_with_len, list_all, filter}
+use Rattle.std.proofs.Common.{◌≡◌, ℕ, ◌<◌, ◌≤◌, Bool, true, List, [], ◌∷◌, length, map, take, get_or, All, refl, sym, ap, subst, ◌∙◌, arith}
+use Rattle.std.specs.List.{range_with_len, list_all}
 use Rattle.std.proofs.lemmas.Bool.{eqb-true, ltb-true}
 use Rattle.std.proofs.lemmas.List.{length-map, get_or-map, take_all}
 use Rattle.std.proofs.lemmas.List.Elements.{All-head, All-tail, All-cons, All-filter, All-get_or, All-from_get_or}
@@ -8,7 +8,7 @@ use Rattle.std.proofs.lemmas.List.FromFn.{fill_by_all}
 use Rattle.std.specs.Prelude.{nat_lt}
 use Rattle.edit_terms.specs.Area.{volume}
 use Rattle.edit_terms.specs.StateText.{State, air}
-use Rattle.edit_terms.specs.World.{BlockContent, World}
+use Rattle.edit_terms.specs.World.{BlockContent}
 use Rattle.edit_terms.specs.Grid.{GridParts, world_of, is_numbered, state_of_cell, content_of_cell}
 use Rattle.edit_terms.specs.Same.{same_state}
 use Rattle.edit_terms.proofs.AreaLemmas.{and_both}

@@ -3,5 +3,5 @@ pub mod Text
 pub mod Varint
 pub mod Schematic
 pub mod Read
-pub mod Reading
+pub mod Candidate
 pub mod Numbers

@@ -2,9 +2,8 @@
 ghost use Rattle.std.specs.Prelude.{◌≡◌, true, All, IfOk, FitsSigned};
 ghost use Rattle.std.specs.Int.{w32};
 ghost use Rattle.edit_terms.specs.Area.{is_world_box};
-ghost use Rattle.sponge_schematic.specs.Reading.{Gives, box_at, world_box, named_state, entry_at, varint_at, times, palette_at, cells_at, grid_of, grid_at, world_at, candidate};
+ghost use Rattle.sponge_schematic.specs.Candidate.{IsCandidate, Gives, box_at, world_box, named_state, entry_at, varint_at, times, palette_at, cells_at, grid_of, grid_at, world_at, candidate};
 ghost use Rattle.sponge_schematic.specs.Schematic.{IsPlainState};
-ghost use Rattle.sponge_schematic.specs.Read.{IsCandidate};
 
 use crate::carried::Carried;
 use crate::fault::WorldFault;
@@ -15,7 +14,7 @@ use edit_terms::{BlockName, BlockState, Grid, Name, Pos, Properties, WorldBox};
 use std::alloc::Global;
 
 /// The world and the data version.
-#[tactic(auto, unfolding(crate::specs::Reading::candidate))]
+#[tactic(auto, unfolding(crate::specs::Candidate::candidate))]
 pub(crate) fn candidate(alloc: Global, bytes: &[u8]) -> Result<World, WorldFault>
     ensures gives { Gives (λ w. (w.carried.data_version, w.grid)) result (candidate bytes.now) }
     ensures plain { IfOk result (λ w. IsCandidate w.grid) }
@@ -31,7 +30,7 @@ pub(crate) fn candidate(alloc: Global, bytes: &[u8]) -> Result<World, WorldFault
 }
 
 /// The grid whose tags begin with the box's.
-#[tactic(auto, unfolding(crate::specs::Reading::world_at))]
+#[tactic(auto, unfolding(crate::specs::Candidate::world_at))]
 fn world_at(alloc: Global, bytes: &[u8]) -> Result<Grid, WorldFault>
     ensures gives { Gives (λ x. x) result (world_at bytes.now) }
     ensures plain { IfOk result IsCandidate }
@@ -42,7 +41,7 @@ fn world_at(alloc: Global, bytes: &[u8]) -> Result<Grid, WorldFault>
 }
 
 /// The grid of this box whose palette and block data these are.
-#[tactic(auto, unfolding(crate::specs::Reading::grid_at))]
+#[tactic(auto, unfolding(crate::specs::Candidate::grid_at))]
 fn grid_at(alloc: Global, area: WorldBox, bytes: &[u8]) -> Result<Grid, WorldFault>
     requires { is_world_box area ≡ true }
     ensures gives { Gives (λ x. x) result (grid_at area bytes.now) }
@@ -70,7 +69,7 @@ fn grid_of(
     }
 }
 
-#[tactic(auto, unfolding(crate::specs::Reading::box_at))]
+#[tactic(auto, unfolding(crate::specs::Candidate::box_at))]
 fn box_at(bytes: &[u8]) -> Result<WorldBox, WorldFault>
     ensures gives { Gives (λ x. x) result (box_at bytes.now) }
     ensures world { IfOk result (λ x. is_world_box x ≡ true) }
@@ -96,7 +95,7 @@ fn world_box(least: &Pos, width: u32, height: u32, length: u32) -> Result<WorldB
 }
 
 /// The palette's states in their order; the numbers of the entries aren't looked at.
-#[tactic(auto, unfolding(crate::specs::Reading::palette_at))]
+#[tactic(auto, unfolding(crate::specs::Candidate::palette_at))]
 fn palette_at(alloc: Global, bytes: &[u8]) -> Result<(Vec<BlockState>, &[u8]), WorldFault>
     ensures gives { Gives (λ x. (x.0.items, x.1.now)) result (palette_at bytes.now) }
     ensures plain { IfOk result (λ x. All IsPlainState x.0.items) }
@@ -126,7 +125,7 @@ fn entries_at(
     Ok((states, rest))
 }
 
-#[tactic(auto, unfolding(crate::specs::Reading::entry_at))]
+#[tactic(auto, unfolding(crate::specs::Candidate::entry_at))]
 fn entry_at(alloc: Global, bytes: &[u8]) -> Result<(BlockState, &[u8]), WorldFault>
     ensures gives { Gives (λ x. (x.0, x.1.now)) result (entry_at bytes.now) }
     ensures plain { IfOk result (λ x. IsPlainState x.0) }
@@ -155,7 +154,7 @@ fn named_state(alloc: Global, text: &[u8]) -> Result<BlockState, WorldFault>
 }
 
 /// The numbers of so many blocks.
-#[tactic(auto, unfolding(crate::specs::Reading::cells_at))]
+#[tactic(auto, unfolding(crate::specs::Candidate::cells_at))]
 fn cells_at(alloc: Global, count: u32, bytes: &[u8]) -> Result<Vec<u32>, WorldFault>
     ensures { Gives (λ x. x.items) result (cells_at count bytes.now) }
 {

@@ -1,7 +1,7 @@
 //! Reading the fields of a file from the front: a field and the bytes after it.
 ghost use Rattle.std.specs.Prelude.{◌≡◌, length};
 ghost use Rattle.std.specs.Int.{w16, w32};
-ghost use Rattle.sponge_schematic.specs.Reading.{Gives, behind, number_at, signed_at, short_at, count_at, int_at, corner_at, text_at, byte_at, varint_at};
+ghost use Rattle.sponge_schematic.specs.Candidate.{Gives, behind, number_at, signed_at, short_at, count_at, int_at, corner_at, text_at, byte_at, varint_at};
 
 use crate::fault::WorldFault;
 use edit_terms::Pos;
@@ -45,7 +45,7 @@ fn i32_at(bytes: &[u8]) -> Result<(i32, &[u8]), WorldFault>
 }
 
 /// The number of a Short of this name.
-#[tactic(auto, unfolding(crate::specs::Reading::short_at))]
+#[tactic(auto, unfolding(crate::specs::Candidate::short_at))]
 pub(crate) fn short_at<'a>(name: &[u8], bytes: &'a [u8]) -> Result<(u16, &'a [u8]), WorldFault>
     ensures { Gives (λ x. (x.0, x.1.now)) result (short_at name.now bytes.now) }
 {
@@ -54,7 +54,7 @@ pub(crate) fn short_at<'a>(name: &[u8], bytes: &'a [u8]) -> Result<(u16, &'a [u8
 }
 
 /// The number of an Int of this name, as a count.
-#[tactic(auto, unfolding(crate::specs::Reading::count_at))]
+#[tactic(auto, unfolding(crate::specs::Candidate::count_at))]
 pub(crate) fn count_at<'a>(name: &[u8], bytes: &'a [u8]) -> Result<(u32, &'a [u8]), WorldFault>
     ensures { Gives (λ x. (x.0, x.1.now)) result (count_at name.now bytes.now) }
 {
@@ -63,7 +63,7 @@ pub(crate) fn count_at<'a>(name: &[u8], bytes: &'a [u8]) -> Result<(u32, &'a [u8
 }
 
 /// The number of an Int of this name.
-#[tactic(auto, unfolding(crate::specs::Reading::int_at))]
+#[tactic(auto, unfolding(crate::specs::Candidate::int_at))]
 pub(crate) fn int_at<'a>(name: &[u8], bytes: &'a [u8]) -> Result<(i32, &'a [u8]), WorldFault>
     ensures { Gives (λ x. (x.0, x.1.now)) result (int_at name.now bytes.now) }
 {
@@ -72,7 +72,7 @@ pub(crate) fn int_at<'a>(name: &[u8], bytes: &'a [u8]) -> Result<(i32, &'a [u8])
 }
 
 /// The three numbers of the IntArray `Offset`.
-#[tactic(auto, unfolding(crate::specs::Reading::corner_at))]
+#[tactic(auto, unfolding(crate::specs::Candidate::corner_at))]
 pub(crate) fn corner_at(bytes: &[u8]) -> Result<Pos, WorldFault>
     ensures { Gives (λ x. x) result (corner_at bytes.now) }
 {
@@ -105,7 +105,7 @@ fn byte_at(bytes: &[u8]) -> Result<(u8, &[u8]), WorldFault>
 }
 
 /// The number of a varint of at most four bytes.
-#[tactic(auto, unfolding(crate::specs::Reading::varint_at))]
+#[tactic(auto, unfolding(crate::specs::Candidate::varint_at))]
 pub(crate) fn varint_at(bytes: &[u8]) -> Result<(u32, &[u8]), WorldFault>
     ensures { Gives (λ x. (x.0, x.1.now)) result (varint_at bytes.now) }
 {

@@ -35,6 +35,7 @@ fn put_number(out: &mut Vec<u8>, number: &i32) -> Result<(), Memory>
     Ok(())
 }
 
+/// An Int.
 #[tactic(auto, unfolding(crate::specs::Tags::int_tag))]
 pub(crate) fn put_int(out: &mut Vec<u8>, name: &[u8], number: &i32) -> Result<(), Memory>
     ensures { OnOk result (out.new.items ≡ out.old.items ++ int_tag name.now number.now) }
@@ -65,6 +66,7 @@ pub(crate) fn put_corner(out: &mut Vec<u8>, name: &[u8], p: &Pos) -> Result<(), 
     put_number(out, &p.z)
 }
 
+/// A ByteArray.
 #[tactic(auto, unfolding(crate::specs::Tags::byte_array_tag, crate::specs::Tags::count))]
 pub(crate) fn put_bytes(out: &mut Vec<u8>, name: &[u8], bytes: &[u8]) -> Result<(), Memory>
     ensures { OnOk result (out.new.items ≡ out.old.items ++ byte_array_tag name.now bytes.now) }

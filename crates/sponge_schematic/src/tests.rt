@@ -1,7 +1,7 @@
-ghost use Rattle.std.specs.Prelude.{◌≡◌, ◌≤◌, ◌-◌, ◌^◌, [], All, IfOk, length};
+ghost use Rattle.std.specs.Prelude.{◌≡◌, [], All, IfOk, OnOk};
 ghost use Rattle.sponge_schematic.specs.Schematic.{IsPlainGrid};
 
-use crate::{Carried, WorldFault, read_world, write_world};
+use crate::{Carried, World, WorldFault, read_world, write_world};
 use edit_terms::{BlockName, BlockState, Grid, Name, Pos, Properties, WorldBox};
 use std::alloc::Global;
 use std::process::Abort;
@@ -38,12 +38,20 @@ fn bare_state(alloc: Global, name: &[u8]) -> Result<BlockState, Fail>
     Ok(BlockState::new(name, properties))
 }
 
+fn push_state(alloc: Global, states: &mut Vec<BlockState>, name: &[u8]) -> Result<(), Fail>
+    requires { All (λ s. s.properties ≡ []) states.old.items }
+    ensures { OnOk result (All (λ s. s.properties ≡ []) states.new.items) }
+{
+    states.push(bare_state(alloc, name)?)?;
+    Ok(())
+}
+
 fn bare_states(alloc: Global, names: &[&[u8]]) -> Result<Vec<BlockState>, Fail>
     ensures { IfOk result (λ v. All (λ s. s.properties ≡ []) v.items) }
 {
     let mut states = Vec::new(alloc);
     for name in names {
-        states.push(bare_state(alloc, name)?)?;
+        push_state(alloc, &mut states, name)?;
     }
     Ok(states)
 }
@@ -63,12 +71,28 @@ fn plain_grid(
     }
 }
 
+fn one_dirt() -> &'static [u8] {
+    &ONE_DIRT
+}
+
+fn read(rt: &impl Abort, alloc: Global, bytes: &[u8]) -> Result<World, WorldFault>
+    ensures { IfOk result (λ w. IsPlainGrid w.grid) }
+{
+    assert!(rt; bytes.len() < 1_000_000);
+    read_world(alloc, bytes)
+}
+
 /// The bytes with those from `at` to `end` exchanged for others.
 fn edited(alloc: Global, at: usize, end: usize, other: &[u8]) -> Result<Vec<u8>, Fail> {
-    let front = ONE_DIRT.get(..at).ok_or("a place in the file")?;
-    let back = ONE_DIRT.get(end..).ok_or("a place in the file")?;
+    let front = one_dirt().get(..at).ok_or("a place in the file")?;
+    let back = one_dirt().get(end..).ok_or("a place in the file")?;
+    let mut bytes = joined(alloc, front, other)?;
+    bytes.extend_from_slice(back)?;
+    Ok(bytes)
+}
+
+fn joined(alloc: Global, front: &[u8], back: &[u8]) -> Result<Vec<u8>, Fail> {
     let mut bytes = Vec::from_slice(alloc, front)?;
-    bytes.extend_from_slice(other)?;
     bytes.extend_from_slice(back)?;
     Ok(bytes)
 }
@@ -76,15 +100,18 @@ fn edited(alloc: Global, at: usize, end: usize, other: &[u8]) -> Result<Vec<u8>,
 #[test]
 fn one_block_is_read_and_written(rt: HostRuntime) -> Result<(), Fail> {
     let alloc = rt.alloc();
-    let world = read_world(alloc, &ONE_DIRT)?;
+    let world = read(&rt, alloc, one_dirt())?;
     let area = world.grid.area();
     assert_eq!(rt; area.least(), Pos { x: 0, y: 0, z: 0 });
     assert_eq!(rt; (area.width(), area.height(), area.length()), (1, 1, 1));
     assert_eq!(rt; world.carried.data_version, 2586);
-    let state = world.grid.get(Pos { x: 0, y: 0, z: 0 }).ok_or("the one block")?;
+    let state = world
+        .grid
+        .get(Pos { x: 0, y: 0, z: 0 })
+        .ok_or("the one block")?;
     assert_eq!(rt; state.name(), b"minecraft:dirt".as_slice());
     let written = write_world(alloc, &world.carried, &world.grid)?;
-    assert_eq!(rt; written.as_slice(), ONE_DIRT.as_slice());
+    assert_eq!(rt; written.as_slice(), one_dirt());
     Ok(())
 }
 
@@ -95,7 +122,7 @@ fn numbered_states(alloc: Global, count: u32) -> Result<Vec<BlockState>, Fail>
     let mut states = Vec::new(alloc);
     for number in 0..count {
         let name = format!(in alloc; "minecraft:b{number}")?;
-        states.push(bare_state(alloc, name.as_bytes())?)?;
+        push_state(alloc, &mut states, name.as_bytes())?;
     }
     Ok(states)
 }
@@ -113,6 +140,42 @@ fn assert_same(rt: &impl Abort, a: &Grid, b: &Grid) -> Result<(), Fail> {
         let new = b.get(p).ok_or("a block")?;
         assert_eq!(rt; old.name(), new.name(), "at {index}");
     }
+    Ok(())
+}
+
+/// Where some parts of the file of that box stand, and what they are.
+fn box_parts() -> [(usize, &'static [u8]); 10] {
+    [
+        (40, b"\xFF\xFF\xFF\xFE\x02".as_slice()),
+        (52, b"\x00\x21\x02".as_slice()),
+        (63, b"\x00\x04\x02".as_slice()),
+        (74, b"\x00\x12\x0B".as_slice()),
+        (
+            89,
+            b"\xFF\xFF\xFF\xEC\xFF\xFF\xFF\xFD\xFF\xFF\xFF\xFB".as_slice(),
+        ),
+        (114, b"\x00\x00\x00\x02".as_slice()),
+        (
+            128,
+            b"\x03\x00\x0Fminecraft:stone\x00\x00\x00\x00".as_slice(),
+        ),
+        (
+            150,
+            b"\x03\x00\x0Eminecraft:dirt\x00\x00\x00\x01\x00".as_slice(),
+        ),
+        (184, b"\x00\x00\x09\x48".as_slice()),
+        (2564, b"\x00".as_slice()),
+    ]
+}
+
+fn assert_parts(rt: &impl Abort, bytes: &[u8], data: &[u8]) -> Result<(), Fail> {
+    for (from, wanted) in box_parts() {
+        let found = bytes.get(from..).ok_or("a part of the file")?;
+        assert!(rt; found.starts_with(wanted), "at {from}");
+    }
+    let found = bytes.get(188..).ok_or("a part of the file")?;
+    assert!(rt; found.starts_with(data), "the block data");
+    assert_eq!(rt; bytes.len(), 2565);
     Ok(())
 }
 
@@ -142,24 +205,8 @@ fn a_box_over_several_chunks_is_written_in_index_order(rt: HostRuntime) -> Resul
     let grid = plain_grid(alloc, area, kinds, cells)?;
     let carried = Carried { data_version: -2 };
     let bytes = write_world(alloc, &carried, &grid)?;
-    for (from, wanted) in [
-        (40, b"\xFF\xFF\xFF\xFE\x02".as_slice()),
-        (52, b"\x00\x21\x02".as_slice()),
-        (63, b"\x00\x04\x02".as_slice()),
-        (74, b"\x00\x12\x0B".as_slice()),
-        (89, b"\xFF\xFF\xFF\xEC\xFF\xFF\xFF\xFD\xFF\xFF\xFF\xFB".as_slice()),
-        (114, b"\x00\x00\x00\x02".as_slice()),
-        (128, b"\x03\x00\x0Fminecraft:stone\x00\x00\x00\x00".as_slice()),
-        (150, b"\x03\x00\x0Eminecraft:dirt\x00\x00\x00\x01\x00".as_slice()),
-        (184, b"\x00\x00\x09\x48".as_slice()),
-        (188, data.as_slice()),
-        (2564, b"\x00".as_slice()),
-    ] {
-        let found = bytes.get(from..).ok_or("a part of the file")?;
-        assert!(rt; found.starts_with(wanted), "at {from}");
-    }
-    assert_eq!(rt; bytes.len(), 2565);
-    let world = read_world(alloc, &bytes)?;
+    assert_parts(&rt, &bytes, &data)?;
+    let world = read(&rt, alloc, &bytes)?;
     assert_eq!(rt; world.carried.data_version, -2);
     assert_eq!(rt; world.grid.kinds().len(), 2);
     assert_same(&rt, &grid, &world.grid)?;
@@ -199,15 +246,13 @@ fn long_varints_are_written_and_read(rt: HostRuntime) -> Result<(), Fail> {
         let found = bytes.get(place..).ok_or("a part of the file")?;
         assert!(rt; found.starts_with(&wanted), "at {place} of {len}");
     }
-    let world = read_world(alloc, &bytes)?;
+    let world = read(&rt, alloc, &bytes)?;
     assert_same(&rt, &grid, &world.grid)
 }
 
-#[test]
-fn other_bytes_are_unbuilt(rt: HostRuntime) -> Result<(), Fail> {
-    let alloc = rt.alloc();
-    let swapped = [part(&ONE_DIRT, 54, 65)?, part(&ONE_DIRT, 44, 54)?].concat(alloc)?;
-    let cases: [(&str, usize, usize, &[u8]); 17] = [
+/// What is wrong after an edit of the file, and the edit: from where to where, and the new bytes.
+fn edits() -> [(&'static str, usize, usize, &'static [u8]); 16] {
+    [
         ("empty", 0, 168, b""),
         ("gzip", 0, 168, b"\x1F\x8B"),
         ("a trailing byte", 168, 168, b"\x00"),
@@ -215,31 +260,49 @@ fn other_bytes_are_unbuilt(rt: HostRuntime) -> Result<(), Fail> {
         ("another version", 25, 26, b"\x03"),
         ("no width", 52, 54, b"\x00\x00"),
         ("off the map", 89, 91, b"\x7F\xFF"),
-        ("another order of tags", 44, 65, swapped.as_slice()),
         ("another count of entries", 117, 118, b"\x02"),
-        ("a state with properties", 129, 145, b"\x00\x13minecraft:dirt[a=b]"),
+        (
+            "a state with properties",
+            129,
+            145,
+            b"\x00\x13minecraft:dirt[a=b]",
+        ),
         ("a name without a namespace", 129, 145, b"\x00\x04dirt"),
         ("an entry of another number", 148, 149, b"\x01"),
-        ("an unused entry", 149, 149, b"\x03\x00\x03a:b\x00\x00\x00\x01"),
+        (
+            "an unused entry",
+            149,
+            149,
+            b"\x03\x00\x03a:b\x00\x00\x00\x01",
+        ),
         ("a varint that is too long", 165, 167, b"\x02\x80\x00"),
         ("a number without an entry", 166, 167, b"\x01"),
         ("no data", 165, 167, b"\x00"),
         ("another tag", 167, 167, b"\x01\x00\x01a\x00"),
-    ];
-    for (what, at, end, other) in cases {
+    ]
+}
+
+#[test]
+fn other_bytes_are_unbuilt(rt: HostRuntime) -> Result<(), Fail> {
+    let alloc = rt.alloc();
+    let swapped = joined(alloc, part(one_dirt(), 54, 65)?, part(one_dirt(), 44, 54)?)?;
+    let bytes = edited(alloc, 44, 65, &swapped)?;
+    assert!(rt; is_unbuilt(&rt, alloc, &bytes), "another order of tags");
+    for (what, at, end, other) in edits() {
         let bytes = edited(alloc, at, end, other)?;
-        assert!(rt; is_unbuilt(alloc, &bytes), "{what}");
+        assert!(rt; is_unbuilt(&rt, alloc, &bytes), "{what}");
     }
     for len in [1, 12, 43, 100, 128, 149, 163, 167] {
-        assert!(rt; is_unbuilt(alloc, part(&ONE_DIRT, 0, len)?), "{len} bytes");
+        assert!(rt;
+            is_unbuilt(&rt, alloc, part(one_dirt(), 0, len)?),
+            "{len} bytes"
+        );
     }
     Ok(())
 }
 
-fn is_unbuilt(alloc: Global, bytes: &[u8]) -> bool
-    requires { length bytes.now ≤ 2 ^ 32 - 1 }
-{
-    matches!(read_world(alloc, bytes), Err(WorldFault::Unbuilt))
+fn is_unbuilt(rt: &impl Abort, alloc: Global, bytes: &[u8]) -> bool {
+    matches!(read(rt, alloc, bytes), Err(WorldFault::Unbuilt))
 }
 
 /// Two blocks, of a palette of dirt and stone.
@@ -262,8 +325,8 @@ fn numbers_go_by_first_appearance(rt: HostRuntime) -> Result<(), Fail> {
         (b"\x01\x01\x00", false),
         (b"\x00\x02\x00", false),
     ] {
-        let bytes = [front, data.as_slice()].concat(alloc)?;
-        assert_eq!(rt; read_world(alloc, &bytes).is_ok(), is_plain, "{data:?}");
+        let bytes = joined(alloc, front, data)?;
+        assert_eq!(rt; is_unbuilt(&rt, alloc, &bytes), !is_plain, "{data:?}");
     }
     Ok(())
 }

@@ -1,6 +1,5 @@
-use Rattle.std.proofs.Common.{◌≡◌, ◌∙◌, ℤ, Some, sym, ap, FitsSigned, to_z, of_z, w32, rules}
+use Rattle.std.proofs.Common.{◌∙◌, ℤ, Some, sym, ap, FitsSigned, w32, rules}
 use Rattle.std.proofs.lemmas.Int.{to_z-of_z}
-use Rattle.edit_terms.specs.Grid.{GridParts}
 use Rattle.sponge_schematic.proofs.Candidates.{candidate_is}
 use Rattle.sponge_schematic.proofs.candidate.candidate.Goals as goal
 

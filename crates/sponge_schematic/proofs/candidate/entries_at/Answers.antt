@@ -1,8 +1,8 @@
-use Rattle.std.proofs.Common.{◌≡◌, ◌++◌, ◌∷◌, [], All, subst, sym}
+use Rattle.std.proofs.Common.{All, subst, sym}
 use Rattle.std.proofs.lemmas.Result.{err_from_is_err_and}
 use Rattle.std.proofs.lemmas.List.Elements.{All-push}
 use Rattle.sponge_schematic.specs.Schematic.{IsPlainState}
-use Rattle.sponge_schematic.specs.Reading.{times, entry_at}
+use Rattle.sponge_schematic.specs.Candidate.{times, entry_at}
 use Rattle.sponge_schematic.proofs.Loop.{goes_on, ends, is_done}
 use Rattle.sponge_schematic.proofs.candidate.entries_at.Goals as goal
 

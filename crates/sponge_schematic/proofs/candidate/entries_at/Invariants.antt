@@ -1,6 +1,6 @@
 use Rattle.std.proofs.Common.{◌≡◌, ◌-◌, All}
 use Rattle.sponge_schematic.specs.Schematic.{IsPlainState}
-use Rattle.sponge_schematic.specs.Reading.{times, entry_at}
+use Rattle.sponge_schematic.specs.Candidate.{times, entry_at}
 use Rattle.sponge_schematic.proofs.Loop.{with_front}
 use Rattle.sponge_schematic.proofs.candidate.entries_at.Given as goal
 

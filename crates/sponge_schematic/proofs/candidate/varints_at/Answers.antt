@@ -1,6 +1,5 @@
-use Rattle.std.proofs.Common.{◌≡◌, ◌++◌, ◌∷◌, []}
 use Rattle.std.proofs.lemmas.Result.{err_from_is_err_and}
-use Rattle.sponge_schematic.specs.Reading.{times, varint_at}
+use Rattle.sponge_schematic.specs.Candidate.{times, varint_at}
 use Rattle.sponge_schematic.proofs.Loop.{goes_on, ends, is_done}
 use Rattle.sponge_schematic.proofs.candidate.varints_at.Goals as goal
 

@@ -1,5 +1,5 @@
 use Rattle.std.proofs.Common.{◌≡◌, ◌-◌}
-use Rattle.sponge_schematic.specs.Reading.{times, varint_at}
+use Rattle.sponge_schematic.specs.Candidate.{times, varint_at}
 use Rattle.sponge_schematic.proofs.Loop.{with_front}
 use Rattle.sponge_schematic.proofs.candidate.varints_at.Given as goal
 

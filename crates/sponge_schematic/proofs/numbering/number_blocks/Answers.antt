@@ -1,7 +1,7 @@
 -- Each turn numbers one more block.
-use Rattle.std.proofs.Common.{◌≡◌, ◌<◌, ◌≤◌, ◌+◌, ◌++◌, ◌∷◌, [], List, ℕ, refl, subst, All, length, map, get_or, take, ◌∙◌, sym, ap, arith}
+use Rattle.std.proofs.Common.{◌≡◌, ◌<◌, ◌≤◌, ◌+◌, ◌++◌, [], List, ℕ, refl, subst, All, length, map, get_or, take, ◌∙◌, sym, ap, arith}
 use Rattle.std.specs.List.{flat_map}
-use Rattle.std.proofs.lemmas.List.{get_or-map, length-map, length-take, take_all, flat_map_more}
+use Rattle.std.proofs.lemmas.List.{get_or-map, length-map, length-take, flat_map_more}
 use Rattle.edit_terms.specs.StateText.{State, air}
 use Rattle.edit_terms.specs.Same.{same_state, state_equivalence}
 use Rattle.block_palette.specs.Numbering.{number_in, with_entry, distinct, numbers}

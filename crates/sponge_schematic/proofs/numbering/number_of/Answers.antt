@@ -1,5 +1,5 @@
 -- A known kind has the number that the table says; a new one the number that the palette gave.
-use Rattle.std.proofs.Common.{◌≡◌, get_or, length, ◌<◌, Option, Some, None, ℕ, sym, ap, ◌∙◌, arith}
+use Rattle.std.proofs.Common.{◌≡◌, get_or, length, ◌<◌, Some, None, sym, ap, ◌∙◌, arith}
 use Rattle.std.proofs.lemmas.List.{get_or_default}
 use Rattle.edit_terms.specs.StateText.{State, air}
 use Rattle.edit_terms.specs.Same.{same_state, state_decides}

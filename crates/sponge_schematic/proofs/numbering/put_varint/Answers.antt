@@ -1,4 +1,4 @@
-use Rattle.std.proofs.Common.{◌≡◌, ◌/◌, ◌++◌, arith, subst, sym, ◌∙◌, List, ℕ}
+use Rattle.std.proofs.Common.{◌/◌, ◌++◌, arith, subst, sym, ◌∙◌, List, ℕ}
 use Rattle.sponge_schematic.specs.Varint.{varint}
 use Rattle.sponge_schematic.proofs.Varints.{IsLeft, left_first, left_next, left_last}
 use Rattle.sponge_schematic.proofs.numbering.put_varint.Goals as goal

@@ -1,6 +1,6 @@
 -- What was put and what is left are the number's varint.
-use Rattle.std.proofs.Common.{◌≡◌, ◌++◌, ℕ, ◌+◌, ◌<◌, ◌^◌}
-use Rattle.sponge_schematic.specs.Varint.{varint, varint_within}
+use Rattle.std.proofs.Common.{◌++◌}
+use Rattle.sponge_schematic.specs.Varint.{varint}
 use Rattle.sponge_schematic.proofs.Varints.{IsLeft}
 use Rattle.sponge_schematic.proofs.numbering.put_varint.Given as goal
 

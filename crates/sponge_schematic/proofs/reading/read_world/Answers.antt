@@ -1,5 +1,5 @@
 -- What is refused is no plain file; what is read is the file of its world.
-use Rattle.std.proofs.Common.{◌≡◌, Bool, true, false, not, List, ℕ, refl, ◌∙◌, sym, ap, true≢false}
+use Rattle.std.proofs.Common.{◌≡◌, Bool, true, false, not, refl, ◌∙◌, sym, ap, true≢false}
 use Rattle.std.specs.Cmp.Lexicographic.{bytes_decides}
 use Rattle.std.proofs.lemmas.Result.{err_from_is_err_and}
 use Rattle.sponge_schematic.proofs.PlainFiles.{refused, candidate_file, plain_world}

@@ -1,9 +1,9 @@
 -- The tags one after the other are the file.
-use Rattle.std.proofs.Common.{List, [], ◌∷◌, ℕ, ℤ, ◌≡◌, ◌++◌, ◌∙◌, sym, ap, codes, pos, length}
+use Rattle.std.proofs.Common.{List, [], ◌∷◌, ℕ, ℤ, ◌≡◌, ◌++◌, ◌∙◌, ap, codes, pos}
 use Rattle.edit_terms.specs.Grid.{world_of}
 use Rattle.edit_terms.specs.Area.{Area}
 use Rattle.sponge_schematic.specs.Tags.{tag_name, int_tag, byte_array_tag, compound_tag}
-use Rattle.sponge_schematic.specs.Schematic.{CarriedTags, schematic_bytes, box_tags, palette_tags, palette_of, block_data, entry_tags}
+use Rattle.sponge_schematic.specs.Schematic.{CarriedTags, schematic_bytes, box_tags, palette_tags, palette_of, block_data}
 use Rattle.sponge_schematic.proofs.Entries.{file_joined, palette_spelled}
 use Rattle.sponge_schematic.proofs.writing.write_world.Goals as goal
 

@@ -1,11 +1,12 @@
 -- What the reader takes from a file before it compares the file with the written one: a candidate. Names and types
 -- of tags are passed over here, since the comparison looks at them.
-use Rattle.std.specs.Prelude.{◌≡◌, ℕ, zero, suc, ◌+◌, ◌-◌, ◌*◌, ◌<◌, Bool, ℤ, pos, List, [], ◌∷◌, ◌++◌, length, take, drop, Option, Some, None, Result, Ok, Err, nat_lt, ◌==◌, if◌then◌else◌, codes}
+use Rattle.std.specs.Prelude.{◌≡◌, true, All, ℕ, zero, suc, ◌+◌, ◌-◌, ◌*◌, ℤ, List, [], ◌∷◌, length, take, drop, Option, Some, None, Result, Ok, Err, nat_lt, if◌then◌else◌, codes}
 use Rattle.std.specs.Int.{Width, w16, w32, byte_len, from_be_bytes, cast_signed}
 use Rattle.edit_terms.specs.declared.pos.Pos.{Pos}
 use Rattle.edit_terms.specs.Area.{Area, volume, is_world_box}
 use Rattle.edit_terms.specs.StateText.{State, is_block_name}
 use Rattle.edit_terms.specs.Grid.{GridParts, is_numbered}
+use Rattle.sponge_schematic.specs.Schematic.{IsPlainState}
 use Rattle.sponge_schematic.specs.declared.fault.WorldFault.{WorldFault}
 use Rattle.sponge_schematic.specs.declared.fault.WorldFault.TheVariants.{Unbuilt, Memory}
 
@@ -147,3 +148,10 @@ candidate bytes = do
   version ← int_at (codes "DataVersion") tags
   grid ← world_at version.1
   Some (version.0, grid)
+
+-- a grid that a file without entities can hold: of a world's box, each of its kinds plain, and its own numbers
+pub record IsCandidate (g : GridParts) : Type 0 where
+  pub box : is_world_box g.area ≡ true
+  pub numbered : is_numbered g.area g.kinds g.cells ≡ true
+  pub entities : g.entities ≡ []
+  pub kinds : All IsPlainState g.kinds
