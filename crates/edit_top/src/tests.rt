@@ -126,7 +126,17 @@ struct Outside<'a> {
     puts: &'a [Planned],
 }
 
-impl Outside<'_> {
+impl<'a> Outside<'a> {
+    /// No call fails.
+    fn steady(world: &'a [u8], script: &'a str) -> Outside<'a> {
+        Outside {
+            world,
+            script: script.as_bytes(),
+            loads_and_saves: &[],
+            puts: &[],
+        }
+    }
+
     fn files(&self, alloc: Global) -> Result<Vec<(String, Vec<u8>)>, AllocError> {
         let mut files = Vec::new(alloc);
         let named = [
@@ -140,7 +150,7 @@ impl Outside<'_> {
         Ok(files)
     }
 
-    fn run(
+    fn run_words(
         &self,
         rt: &(impl Threads + Wait + Sync),
         alloc: Global,
@@ -156,6 +166,11 @@ impl Outside<'_> {
             shelf,
             sink,
         })
+    }
+
+    /// A run by the usual words.
+    fn run(&self, rt: &(impl Threads + Wait + Sync), alloc: Global) -> Result<Ended, Fail> {
+        self.run_words(rt, alloc, &WORDS)
     }
 }
 
@@ -189,28 +204,12 @@ impl Ended {
     }
 }
 
-/// A run that nothing fails, by the usual words.
-fn run_plainly(
-    rt: &(impl Threads + Wait + Sync),
-    alloc: Global,
-    world: &[u8],
-    script: &str,
-) -> Result<Ended, Fail> {
-    let outside = Outside {
-        world,
-        script: script.as_bytes(),
-        loads_and_saves: &[],
-        puts: &[],
-    };
-    outside.run(rt, alloc, &WORDS)
-}
-
 #[test]
 fn one_block_set_end_to_end(rt: HostRuntime) -> Result<(), Fail> {
     let alloc = rt.alloc();
     let world = one_block(alloc, "minecraft:stone")?;
     assert_eq!(rt; world.len(), 169);
-    let ended = run_plainly(&rt, alloc, &world, SET_DIRT)?;
+    let ended = Outside::steady(&world, SET_DIRT).run(&rt, alloc)?;
     assert_eq!(rt; ended.status.code(), 0);
     ended.assert_is(&rt, alloc, "Done", DIRT_IS_SET, &ONE_DIRT)?;
     assert!(rt; ended.shelf.file("in.schem") == Some(world.as_slice()));
@@ -221,21 +220,16 @@ fn one_block_set_end_to_end(rt: HostRuntime) -> Result<(), Fail> {
 fn plain_script_with_properties_is_unbuilt(rt: HostRuntime) -> Result<(), Fail> {
     let alloc = rt.alloc();
     let script = "player anna\n//pos1 0,0,0\n//pos2 0,0,0\n//set stone[a=1]\n";
-    let ended = run_plainly(&rt, alloc, &ONE_DIRT, script)?;
+    let ended = Outside::steady(&ONE_DIRT, script).run(&rt, alloc)?;
     let status = "ScriptRefused { script: 1, fault: Unbuilt }";
-    ended.assert_is(
-        &rt,
-        alloc,
-        status,
-        "fault: script anna.txt: not built\n",
-        OLD,
-    )
+    let text = "fault: script anna.txt: not built\n";
+    ended.assert_is(&rt, alloc, status, text, OLD)
 }
 
 #[test]
 fn gzip_bytes_are_unbuilt_world(rt: HostRuntime) -> Result<(), Fail> {
     let alloc = rt.alloc();
-    let ended = run_plainly(&rt, alloc, b"\x1F\x8B", SET_DIRT)?;
+    let ended = Outside::steady(b"\x1F\x8B", SET_DIRT).run(&rt, alloc)?;
     let status = "WorldRefused { fault: Unbuilt }";
     ended.assert_is(&rt, alloc, status, "fault: world: not built\n", OLD)
 }
@@ -250,87 +244,75 @@ fn failing_save_put_and_load(rt: HostRuntime) -> Result<(), Fail> {
     let alloc = rt.alloc();
     let world = one_block(alloc, "minecraft:stone")?;
     let long = vec![in alloc; b'#'; 1_048_577]?;
-    let good = SET_DIRT.as_bytes();
-    for (script, loads_and_saves, puts, status, text, out) in [
+    let steady = Outside::steady(&world, SET_DIRT);
+    let at_world = [fails_at(0, None)];
+    let at_script = [fails_at(1, None)];
+    let at_save = [fails_at(2, None)];
+    let in_save = [fails_at(2, Some(10))];
+    let in_text = [fails_at(0, Some(5))];
+    let in_name = [fails_at(1, Some(3))];
+    for (loads_and_saves, puts, status, text, out) in [
         (
-            good,
-            [fails_at(2, Some(10))].as_slice(),
+            in_save.as_slice(),
             [].as_slice(),
             "SaveFault",
             "fault: cannot save out.schem\n",
             &ONE_DIRT[..10],
         ),
         (
-            good,
-            &[fails_at(2, None)],
+            &at_save,
             &[],
             "SaveFault",
             "fault: cannot save out.schem\n",
             OLD,
         ),
+        (&[], &in_text, "PrintFault", "0 ann", &ONE_DIRT),
         (
-            good,
-            &[],
-            &[fails_at(0, Some(5))],
-            "PrintFault",
-            "0 ann",
-            &ONE_DIRT,
-        ),
-        (
-            good,
-            &[fails_at(1, None)],
+            &at_script,
             &[],
             "ReadFault { file: 1 }",
             "fault: cannot read anna.txt\n",
             OLD,
         ),
         (
-            good,
-            &[fails_at(0, None)],
+            &at_world,
             &[],
             "ReadFault { file: 0 }",
             "fault: cannot read in.schem\n",
             OLD,
         ),
         (
-            good,
-            &[fails_at(0, None)],
-            &[fails_at(1, Some(3))],
+            &at_world,
+            &in_name,
             "ReadFault { file: 0 }",
             "fault: cannot read in.",
             OLD,
         ),
-        (
-            long.as_slice(),
-            &[],
-            &[],
-            "TooLong { file: 1 }",
-            "fault: too long: anna.txt\n",
-            OLD,
-        ),
     ] {
         let outside = Outside {
-            world: &world,
-            script,
             loads_and_saves,
             puts,
+            ..steady
         };
         outside
-            .run(&rt, alloc, &WORDS)?
+            .run(&rt, alloc)?
             .assert_is(&rt, alloc, status, text, out)?;
     }
-    Ok(())
+    let outside = Outside {
+        script: &long,
+        ..steady
+    };
+    let text = "fault: too long: anna.txt\n";
+    outside
+        .run(&rt, alloc)?
+        .assert_is(&rt, alloc, "TooLong { file: 1 }", text, OLD)
 }
 
 #[test]
 fn other_words_are_usage(rt: HostRuntime) -> Result<(), Fail> {
     let alloc = rt.alloc();
-    let outside = Outside {
-        world: &ONE_DIRT,
-        script: SET_DIRT.as_bytes(),
-        loads_and_saves: &[],
-        puts: &[],
-    };
+    let outside = Outside::steady(&ONE_DIRT, SET_DIRT);
+    let text = "fault: usage: run WORLD OUT SCRIPT\n";
     for words in [
         [].as_slice(),
         &["run"],
@@ -339,14 +321,8 @@ fn other_words_are_usage(rt: HostRuntime) -> Result<(), Fail> {
         &["check", "in.schem", "out.schem", "anna.txt"],
         &["Run", "in.schem", "out.schem", "anna.txt"],
     ] {
-        let ended = outside.run(&rt, alloc, words)?;
-        ended.assert_is(
-            &rt,
-            alloc,
-            "Usage",
-            "fault: usage: run WORLD OUT SCRIPT\n",
-            OLD,
-        )?;
+        let ended = outside.run_words(&rt, alloc, words)?;
+        ended.assert_is(&rt, alloc, "Usage", text, OLD)?;
     }
     Ok(())
 }
@@ -373,7 +349,9 @@ fn scripts_over_one_block(rt: HostRuntime) -> Result<(), Fail> {
             &stone,
         ),
     ] {
-        run_plainly(&rt, alloc, &stone, script)?.assert_is(&rt, alloc, "Done", text, file)?;
+        Outside::steady(&stone, script)
+            .run(&rt, alloc)?
+            .assert_is(&rt, alloc, "Done", text, file)?;
     }
     Ok(())
 }
@@ -382,13 +360,8 @@ fn scripts_over_one_block(rt: HostRuntime) -> Result<(), Fail> {
 fn the_world_may_be_saved_over_itself(rt: HostRuntime) -> Result<(), Fail> {
     let alloc = rt.alloc();
     let world = one_block(alloc, "minecraft:stone")?;
-    let outside = Outside {
-        world: &world,
-        script: SET_DIRT.as_bytes(),
-        loads_and_saves: &[],
-        puts: &[],
-    };
-    let ended = outside.run(&rt, alloc, &["run", "in.schem", "in.schem", "anna.txt"])?;
+    let words = ["run", "in.schem", "in.schem", "anna.txt"];
+    let ended = Outside::steady(&world, SET_DIRT).run_words(&rt, alloc, &words)?;
     ended.assert_is(&rt, alloc, "Done", DIRT_IS_SET, OLD)?;
     assert!(rt; ended.shelf.file("in.schem") == Some(ONE_DIRT.as_slice()));
     Ok(())
@@ -419,7 +392,7 @@ fn a_box_over_several_chunks_is_set(rt: HostRuntime) -> Result<(), Fail> {
         "player anna\n//pos1 -1,0,-1\n//pos2 15,0,15\n//set stone\n//pos1 0,0,-5\n//pos2 -1,2047,0\n//set dirt\n";
     let text =
         "0 anna 2 ok\n1 anna 3 ok\n2 anna 4 changed 289\n3 anna 5 ok\n4 anna 6 ok\n5 anna 7 changed 4\ndone 6\n";
-    let ended = run_plainly(&rt, alloc, &air, script)?;
+    let ended = Outside::steady(&air, script).run(&rt, alloc)?;
     ended.assert_is(&rt, alloc, "Done", text, &set)
 }
 
@@ -478,10 +451,12 @@ fn a_palette_of_more_than_128_entries_is_kept(rt: HostRuntime) -> Result<(), Fai
         "player anna\n//pos1 3,0,0\n//pos2 3,0,0\n//set stone\n//pos1 150,0,0\n//pos2 150,0,0\n//set b0\n";
     let text =
         "0 anna 2 ok\n1 anna 3 ok\n2 anna 4 changed 1\n3 anna 5 ok\n4 anna 6 ok\n5 anna 7 changed 1\ndone 6\n";
-    run_plainly(&rt, alloc, &world, script)?.assert_is(&rt, alloc, "Done", text, &set)?;
-    run_plainly(&rt, alloc, &world, "player anna\n")?.assert_is(
-        &rt, alloc, "Done", "done 0\n", &world,
-    )
+    Outside::steady(&world, script)
+        .run(&rt, alloc)?
+        .assert_is(&rt, alloc, "Done", text, &set)?;
+    Outside::steady(&world, "player anna\n")
+        .run(&rt, alloc)?
+        .assert_is(&rt, alloc, "Done", "done 0\n", &world)
 }
 
 #[test]
@@ -537,14 +512,9 @@ fn a_steady_outside_never_fails_a_run(rt: HostRuntime) -> Result<(), Fail> {
             OLD,
         ),
     ] {
-        let outside = Outside {
-            world,
-            script: script.as_bytes(),
-            loads_and_saves: &[],
-            puts: &[],
-        };
-        let mut shelf = SteadyShelf::new(outside.files(alloc)?);
         let words = words_of(alloc, &WORDS)?;
+        let files = Outside::steady(world, script).files(alloc)?;
+        let mut shelf = SteadyShelf::new(files);
         let ended = run_steadily(&rt, alloc, &words, &mut shelf, &mut NullSink::new());
         let shown = format!(in alloc; "{ended:?}")?;
         assert_eq!(rt; shown.as_str(), status);
