@@ -1,35 +1,30 @@
 -- A command of the private fold is the command of the definitions.
-use Rattle.std.proofs.Common.{◌≡◌, ℕ, ◌+◌, ◌<◌, Bool, true, false, cond, List, [], ◌∷◌, ◌++◌, length, map, get_or, Option, Some, None, refl, sym, ap, ◌∙◌, subst, arith}
-use Rattle.std.specs.Prelude.{All}
+use Rattle.std.proofs.Common.{◌≡◌, ℕ, cond, List, [], ◌∷◌, ◌++◌, length, Option, Some, refl, sym, ap, ◌∙◌, subst, arith}
 use Rattle.std.specs.Option.{option_map_or}
-use Rattle.std.specs.List.{range_with_len}
 use Rattle.std.proofs.lemmas.List.Elements.{All-push}
-use Rattle.edit_terms.specs.declared.pos.Pos.{Pos}
 use Rattle.edit_terms.specs.declared.pattern.Pattern.{Pattern}
 use Rattle.edit_terms.specs.declared.pattern.Entry.{Entry}
 use Rattle.edit_terms.specs.declared.pattern.Value.{Value}
 use Rattle.edit_terms.specs.declared.pattern.Value.TheVariants.{Fixed}
 use Rattle.edit_terms.specs.declared.region.Selection.{Selection}
 use Rattle.edit_terms.specs.declared.region.Region.TheVariants.{Selected}
-use Rattle.edit_terms.specs.declared.script.Command.TheVariants.{Pos1, Pos2, Set}
+use Rattle.edit_terms.specs.declared.script.Command.TheVariants.{Set}
 use Rattle.edit_terms.specs.declared.step.Step.{Step}
-use Rattle.edit_terms.specs.declared.step.Step.TheVariants.{Settled, Job, Refused as refused_step}
+use Rattle.edit_terms.specs.declared.step.Step.TheVariants.{Refused as refused_step}
 use Rattle.edit_terms.specs.declared.step.Work.TheVariants.{Fill}
 use Rattle.edit_terms.specs.declared.step.Refusal.TheVariants.{NoSelection}
-use Rattle.edit_terms.specs.declared.outcome.Reply.{Reply}
-use Rattle.edit_terms.specs.declared.outcome.Reply.TheVariants.{Accepted, Changed, Refused}
+use Rattle.edit_terms.specs.declared.outcome.Reply.TheVariants.{Changed}
 use Rattle.edit_terms.specs.Area.{volume, position_of}
 use Rattle.edit_terms.specs.StateText.{State}
 use Rattle.edit_terms.specs.Region.{is_selected}
-use Rattle.edit_terms.specs.Pattern.{pattern_value}
 use Rattle.edit_terms.specs.World.{BlockContent, World, without_entity}
 use Rattle.edit_terms.specs.Grid.{GridParts, world_of}
 use Rattle.edit_terms.proofs.PatternLemmas.{pattern_value-one}
-use Rattle.run_terms.specs.Session.{Session, selection_of, resolved_command, after_command, job_of}
-use Rattle.run_terms.specs.Effect.{content_of, filled, effect_at, world_with, world_after_step}
+use Rattle.run_terms.specs.Session.{Session, selection_of, resolved_command, job_of}
+use Rattle.run_terms.specs.Effect.{content_of, effect_at, world_with, world_after_step}
 use Rattle.run_terms.specs.Fold.{changes_between}
 use Rattle.run_terms.specs.Reply.{reply_to}
-use Rattle.edit_top.specs.Canvas.{world_filled, IsFilled, IsNumbered}
+use Rattle.edit_top.specs.Canvas.{world_filled, IsFilled}
 use Rattle.command_syntax.specs.Command.{only}
 use Rattle.command_syntax.specs.Plain.{IsPlainPattern}
 use Rattle.edit_top.specs.Plain.{IsAnswered, AreBare}

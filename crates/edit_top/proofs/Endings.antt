@@ -1,19 +1,15 @@
 -- How the parts of a run make its ending.
-use Rattle.std.proofs.Common.{◌≡◌, ℕ, ◌≤◌, List, [], ◌∷◌, ◌++◌, map, length, take, Option, Some, None, refl, sym, ap, ◌∙◌, subst, inl, inr, arith}
-use Rattle.std.specs.Option.{option_map}
-use Rattle.run_terms.specs.Reply.{final_world}
+use Rattle.std.proofs.Common.{◌≡◌, ℕ, List, [], ◌∷◌, ◌++◌, map, Option, Some, None, subst}
 use Rattle.run_ports.specs.Count.{Rose}
-use Rattle.run_ports.specs.Store.{Files, StoreState, IsLater, IsSaved, IsTorn, with_file}
+use Rattle.run_ports.specs.Store.{Files, StoreState, IsLater, IsSaved, IsTorn}
 use Rattle.run_ports.specs.Output.{OutputState, IsAppended, IsPartlyAppended}
-use Rattle.sponge_schematic.specs.Schematic.{schematic_bytes}
 use Rattle.edit_top.specs.declared.top_call.Prepared.{Prepared}
 use Rattle.edit_top.specs.declared.status.Status.{Status}
 use Rattle.edit_top.specs.declared.status.Status.TheVariants.{Done, Usage, ReadFault, TooLong, WorldRefused, ScriptRefused, SaveFault, PrintFault, OutOfMemory}
 use Rattle.edit_top.specs.Words.{FileNames, names_of}
-use Rattle.edit_top.specs.Status.{fault_text}
-use Rattle.edit_top.specs.Outputs.{output_view, with_files, AreSaved, StopsSaving}
-use Rattle.edit_top.specs.Ends.{workload, IsRunOf, saved_file, printed_text, IsTold, Ends, IsDone, IsHalfSaved, IsHalfPrinted}
-use Rattle.edit_top.specs.Prepared.{IsPrepared, IsAllOut, IsSaveStopped, IsPrintStopped, Finishes}
+use Rattle.edit_top.specs.Outputs.{output_view, AreSaved, StopsSaving}
+use Rattle.edit_top.specs.Ends.{IsRunOf, saved_file, Ends}
+use Rattle.edit_top.specs.Prepared.{IsPrepared, Finishes}
 use Rattle.edit_top.proofs.Messages.{rose_since}
 
 -- the run that was prepared

@@ -1,8 +1,8 @@
 -- A fill over a grid's numbers is a fill of its world: place by place, the painted number names the new state, and
 -- every other number the old one.
-use Rattle.std.proofs.Common.{◌≡◌, ℕ, ◌+◌, ◌<◌, ◌≤◌, Bool, true, false, cond, not, ◌&&◌, ltb, eqb, List, [], ◌∷◌, ◌++◌, length, map, get_or, Option, Some, None, refl, sym, ap, ◌∙◌, subst, arith}
+use Rattle.std.proofs.Common.{◌≡◌, ℕ, ◌<◌, Bool, true, false, cond, not, ◌&&◌, ltb, eqb, List, [], ◌∷◌, ◌++◌, length, map, get_or, Some, None, refl, sym, ap, ◌∙◌, subst, arith}
 use Rattle.std.specs.Prelude.{count_by, is_some}
-use Rattle.std.specs.List.{range_with_len, list_all, filter_map}
+use Rattle.std.specs.List.{range_with_len, list_all}
 use Rattle.std.proofs.lemmas.Bool.{eqb-true, eq-eqb, ltb-true, lt-ltb}
 use Rattle.std.specs.Cmp.Derive.{both_true}
 use Rattle.std.proofs.lemmas.List.Sums.{AllPass-from_list_all, list_all-from_AllPass}
@@ -19,7 +19,7 @@ use Rattle.edit_terms.specs.Region.{is_selected}
 use Rattle.edit_terms.specs.declared.region.Selection.{Selection}
 use Rattle.run_terms.specs.Effect.{content_of}
 use Rattle.run_terms.specs.Fold.{Change, change_at, changes_between}
-use Rattle.edit_top.specs.Canvas.{painted, is_changed, bare_grid, world_filled, IsNumbered, IsFilled}
+use Rattle.edit_top.specs.Canvas.{painted, is_changed, bare_grid, world_filled, IsFilled}
 use Rattle.edit_top.proofs.Ranges.{map-range_agrees, count-range_agrees, length-filter_map}
 
 -- the content of a place is that of its number

@@ -1,6 +1,6 @@
 -- The lines of one script, one after the other, are the serial fold of the one order that it has.
-use Rattle.std.proofs.Common.{◌≡◌, ℕ, zero, suc, ◌+◌, ◌<◌, ◌≤◌, Bool, true, false, cond, eqb, List, [], ◌∷◌, ◌++◌, length, map, take, get_or, Option, Some, None, refl, sym, ap, ◌∙◌, subst, arith}
-use Rattle.std.specs.Prelude.{All, fold, slice_get, replicate, count_by}
+use Rattle.std.proofs.Common.{◌≡◌, ℕ, zero, suc, ◌+◌, ◌<◌, ◌≤◌, Bool, false, cond, eqb, List, [], ◌∷◌, ◌++◌, length, map, take, get_or, Option, Some, refl, sym, ap, ◌∙◌, subst, arith}
+use Rattle.std.specs.Prelude.{slice_get, replicate, count_by}
 use Rattle.std.specs.Option.{option_map_or}
 use Rattle.std.specs.List.{range_with_len}
 use Rattle.std.proofs.lemmas.Bool.Decides.{nat_tests}
@@ -24,8 +24,7 @@ use Rattle.run_terms.specs.Fold.{changes_between, changes_of, world_after}
 use Rattle.run_terms.specs.Reply.{reply_to, reply_of, IsOutcome}
 use Rattle.run_terms.proofs.OrderLemmas.{legal_from_whole}
 use Rattle.edit_top.proofs.Ranges.{map-range_agrees}
-use Rattle.edit_top.specs.Canvas.{IsNumbered}
-use Rattle.edit_top.specs.Plain.{AreBare, IsAnswered, HasRun, world_after_lines, reply_of_line}
+use Rattle.edit_top.specs.Plain.{IsAnswered, HasRun, world_after_lines, reply_of_line}
 
 -- the command of a line in its session
 step_of_line-at : (lines : List Line) (i : ℕ) (line : Line) → slice_get lines i ≡ Some line → step_of_line lines i ≡ resolved_command (session_after (take i lines)) line.command

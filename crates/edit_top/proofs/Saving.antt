@@ -1,11 +1,9 @@
 -- Files that are saved one after the other.
-use Rattle.std.proofs.Common.{◌≡◌, ℕ, ◌≤◌, List, [], ◌∷◌, ◌++◌, map, Option, Some, None, refl, sym, ap, ◌∙◌, subst, append_assoc, arith}
-use Rattle.std.specs.Prelude.{fold}
+use Rattle.std.proofs.Common.{ℕ, List, [], ◌∷◌, ◌++◌, Option, Some, None, sym, ap, ◌∙◌, arith}
 use Rattle.std.specs.Option.{option_map}
 use Rattle.std.proofs.lemmas.List.Sums.{fold-append}
-use Rattle.run_ports.specs.Count.{Rose}
-use Rattle.run_ports.specs.Store.{Files, StoreState, with_file, IsLater, IsSaved, IsTorn}
-use Rattle.edit_top.specs.Outputs.{with_files, AreSaved, StopsSaving}
+use Rattle.run_ports.specs.Store.{Files, StoreState, with_file, IsLater, IsSaved}
+use Rattle.edit_top.specs.Outputs.{AreSaved}
 
 -- one file more
 pub saved_then : (before mid after : Option Files) (outputs : List (List ℕ × List ℕ)) (output : List ℕ × List ℕ) → AreSaved before mid outputs → IsSaved mid after output.0 output.1 → AreSaved before after (outputs ++ output ∷ [])

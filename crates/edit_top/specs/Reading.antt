@@ -1,6 +1,6 @@
 -- What a run reads, and why it may stop at reading. A fact about the bytes of a file is said where the file store
 -- tells its files.
-use Rattle.std.specs.Prelude.{◌≡◌, ℕ, zero, suc, ◌≤◌, List, [], ◌∷◌, length, Option, Some, None, IfSome, IsSomeAnd}
+use Rattle.std.specs.Prelude.{◌≡◌, ℕ, zero, suc, ◌≤◌, List, length, Option, Some, None, IfSome, IsSomeAnd}
 use Rattle.edit_terms.specs.declared.script.Script.{Script}
 use Rattle.run_ports.specs.Count.{Rose}
 use Rattle.run_ports.specs.Store.{Files, StoreState, IsLater, IsTooLong}

@@ -13,6 +13,8 @@ mod run_text;
 mod session;
 mod status;
 mod telling;
+#[cfg(test)]
+mod tests;
 mod top_call;
 mod words;
 

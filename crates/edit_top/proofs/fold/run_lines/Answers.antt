@@ -1,4 +1,4 @@
-use Rattle.std.proofs.Common.{◌≡◌, ◌+◌, ◌++◌, ◌∷◌, [], ℕ, List, subst, sym, arith}
+use Rattle.std.proofs.Common.{◌+◌, ℕ, List, subst, sym, arith}
 use Rattle.edit_terms.specs.declared.outcome.Reply.{Reply}
 use Rattle.edit_top.specs.Canvas.{grid_of, session_of}
 use Rattle.edit_top.specs.Plain.{HasRun}

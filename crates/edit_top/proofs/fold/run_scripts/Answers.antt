@@ -1,4 +1,4 @@
-use Rattle.std.proofs.Common.{◌≡◌, ◌∷◌, [], List, length, get_or, ap, subst, sym, ◌∙◌, rules, refl, arith}
+use Rattle.std.proofs.Common.{◌≡◌, ◌∷◌, [], List, length, get_or, ap, subst, sym, ◌∙◌, rules, refl}
 use Rattle.std.specs.Prelude.{replicate}
 use Rattle.edit_terms.specs.declared.script.Line.{Line}
 use Rattle.edit_terms.specs.declared.script.Script.{Script}

@@ -1,6 +1,5 @@
-use Rattle.std.proofs.Common.{◌≡◌, subst, sym, ap, ◌∙◌, Some, rules}
+use Rattle.std.proofs.Common.{subst, sym}
 use Rattle.edit_terms.specs.StateText.{State}
-use Rattle.run_terms.specs.Session.{selection_of}
 use Rattle.edit_top.specs.Canvas.{grid_of, session_of, IsFilled}
 use Rattle.edit_top.proofs.Answering.{set_is_answered, same_fixed}
 use Rattle.edit_top.proofs.fold.set.Goals as goal

@@ -1,8 +1,6 @@
-use Rattle.std.proofs.Common.{◌≡◌, ◌<◌, ◌+◌, ◌++◌, ℕ, List, length, get_or, set, take, ap, sym, ◌∙◌, subst, arith, rules}
-use Rattle.std.specs.List.{flat_map, range_with_len}
+use Rattle.std.proofs.Common.{◌≡◌, ◌<◌, ◌+◌, ◌++◌, ℕ, List, length, get_or, set, take, ap, sym, ◌∙◌, subst, arith}
 use Rattle.std.proofs.lemmas.List.{get_or_default, length-set}
 use Rattle.edit_terms.specs.declared.script.Line.{Line}
-use Rattle.edit_terms.specs.declared.script.Script.{Script}
 use Rattle.edit_terms.specs.declared.outcome.Reply.TheVariants.{Accepted}
 use Rattle.run_terms.specs.Order.{turns_of, lines_of, command_number}
 use Rattle.edit_top.specs.RunText.{text_of_ticket, ticket_text}

@@ -1,11 +1,9 @@
-use Rattle.std.proofs.Common.{◌≡◌, ◌∷◌, [], List, ℕ, map, ap, sym, ◌∙◌, subst, rules}
-use Rattle.edit_terms.specs.World.{World}
+use Rattle.std.proofs.Common.{◌≡◌, ◌∷◌, [], List, ℕ, map, ap, ◌∙◌, subst}
 use Rattle.edit_terms.specs.declared.script.Case.{Case}
 use Rattle.run_terms.specs.Workload.{Workload, workload_of}
-use Rattle.run_terms.specs.Reply.{IsOutcome, final_world}
+use Rattle.run_terms.specs.Reply.{IsOutcome}
 use Rattle.sponge_schematic.specs.Schematic.{schematic_bytes}
 use Rattle.sponge_schematic.specs.Read.{loaded_of}
-use Rattle.edit_top.specs.declared.outputs.Output.{Output}
 use Rattle.edit_top.specs.Outputs.{output_view}
 use Rattle.edit_top.specs.RunText.{run_text}
 use Rattle.edit_top.specs.Ends.{workload}

@@ -1,4 +1,4 @@
-use Rattle.std.proofs.Common.{◌≡◌, List, length, ap, sym, ◌∙◌}
+use Rattle.std.proofs.Common.{List, length, ap, sym, ◌∙◌}
 use Rattle.std.proofs.lemmas.List.FromFn.{length-map-range_with_len}
 use Rattle.edit_terms.specs.declared.outcome.Reply.{Reply}
 use Rattle.run_terms.specs.Workload.{workload_of}

@@ -1,9 +1,9 @@
-use Rattle.std.proofs.Common.{◌≡◌, ◌<◌, ℕ, length, get_or, map, not, ◌++◌, ◌∷◌, [], subst, sym, ap, ◌∙◌, List, rules, arith}
+use Rattle.std.proofs.Common.{◌≡◌, ◌<◌, ℕ, length, get_or, map, not, ◌++◌, ◌∷◌, [], subst, sym, ap, ◌∙◌, List, rules}
 use Rattle.std.specs.Vec.{with_items}
 use Rattle.std.proofs.lemmas.List.{with_items_is}
 use Rattle.edit_terms.specs.StateText.{State}
 use Rattle.edit_terms.specs.Same.{same_state}
-use Rattle.edit_top.specs.Canvas.{bare_grid, grid_of, painted, IsFilled}
+use Rattle.edit_top.specs.Canvas.{bare_grid, painted, IsFilled}
 use Rattle.edit_top.proofs.Filling.{painted_is_filled, numbered_parts, IsPainted}
 use Rattle.edit_top.proofs.canvas.Canvas.fill.Goals as goal
 
