@@ -9,8 +9,9 @@ use Rattle.edit_terms.specs.declared.pos.Pos.{Pos}
 use Rattle.edit_terms.specs.declared.pattern.Entry.{Entry}
 use Rattle.edit_terms.specs.declared.pattern.Pattern.{Pattern}
 use Rattle.edit_terms.specs.Draw.{draw_word, pattern_use}
-use Rattle.edit_terms.specs.Pattern.{chosen_entry, applied, pattern_value}
+use Rattle.edit_terms.specs.Pattern.{chosen_entry, placed, pattern_value}
 use Rattle.edit_terms.specs.World.{BlockContent}
+use Rattle.edit_terms.specs.Clipboard.{CopiedBlocks}
 
 -- a word has 32 bits
 pub draw_word-below : (seed ticket use_number : ℕ) (p : Pos) → draw_word seed ticket use_number p < 2 ^ 32
@@ -25,7 +26,7 @@ chosen_entry-one word e below some =
     let test : ltb (word * (0 + e.weight)) ((0 + e.weight) * 2 ^ 32) ≡ true = lt-ltb (word * (0 + e.weight)) ((0 + e.weight) * 2 ^ 32) less in
     rw test refl
 
-pub pattern_value-one : (pattern : Pattern) (e : Entry) (seed ticket : ℕ) (p : Pos) (old : BlockContent) → pattern.entries ≡ e ∷ [] → 0 < e.weight → pattern_value pattern seed ticket p old ≡ applied e.value old
-pattern_value-one pattern e seed ticket p old only some =
-    ap (λ (es : List Entry). option_map_or (λ f. applied f.value old) (chosen_entry (draw_word seed ticket pattern_use p) es) old) only
-    ∙ ap (λ (o : Option Entry). option_map_or (λ f. applied f.value old) o old) (chosen_entry-one (draw_word seed ticket pattern_use p) e (draw_word-below seed ticket pattern_use p) some)
+pub pattern_value-one : (pattern : Pattern) (e : Entry) (copied : CopiedBlocks) (seed ticket : ℕ) (p : Pos) (old : BlockContent) → pattern.entries ≡ e ∷ [] → 0 < e.weight → pattern_value pattern copied seed ticket p old ≡ placed copied p e.value old
+pattern_value-one pattern e copied seed ticket p old only some =
+    ap (λ (es : List Entry). option_map_or (λ f. placed copied p f.value old) (chosen_entry (draw_word seed ticket pattern_use p) es) old) only
+    ∙ ap (λ (o : Option Entry). option_map_or (λ f. placed copied p f.value old) o old) (chosen_entry-one (draw_word seed ticket pattern_use p) e (draw_word-below seed ticket pattern_use p) some)
