@@ -1,3 +1,7 @@
 pub mod AreaLemmas
 pub mod WorldLemmas
 pub mod PatternLemmas
+pub mod PropertyLemmas
+pub mod TurnLemmas
+pub mod PositionTurns
+mod StateExamples
