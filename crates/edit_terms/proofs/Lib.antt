@@ -4,4 +4,5 @@ pub mod PatternLemmas
 pub mod PropertyLemmas
 pub mod TurnLemmas
 pub mod PositionTurns
+pub mod StateTurns
 mod StateExamples

@@ -1,5 +1,5 @@
 -- Turns and flips of a clipboard: of its relative positions and of the states that stand there.
-use Rattle.std.specs.Prelude.{ℕ, zero, suc, ◌+◌, ◌-◌, ◌%◌, Bool, not, if◌then◌else◌, List, [], ◌∷◌, map, neg_ℤ, codes, bytes_eq, decimal}
+use Rattle.std.specs.Prelude.{ℕ, zero, suc, ◌+◌, ◌-◌, ◌%◌, Bool, not, if◌then◌else◌, List, [], ◌∷◌, map, get_or, neg_ℤ, codes, bytes_eq}
 use Rattle.std.specs.List.{range_with_len}
 use Rattle.edit_terms.specs.declared.pos.Pos.{Pos}
 use Rattle.edit_terms.specs.declared.direction.Direction.{Direction}
@@ -87,9 +87,18 @@ pub record TurnTable : Type 0 where
 abbrev pub exchanged : List ℕ → List ℕ → Words
 exchanged a b = (a, b) ∷ (b, a) ∷ []
 
+-- the decimal numbers 0 to 15, which are written without leading zeros
+abbrev pub decimals : List (List ℕ)
+decimals =
+    codes "0" ∷ codes "1" ∷ codes "2" ∷ codes "3" ∷ codes "4" ∷ codes "5" ∷ codes "6" ∷ codes "7"
+    ∷ codes "8" ∷ codes "9" ∷ codes "10" ∷ codes "11" ∷ codes "12" ∷ codes "13" ∷ codes "14" ∷ codes "15" ∷ []
+
+abbrev pub decimal_of : ℕ → List ℕ
+decimal_of r = get_or decimals r []
+
 -- the rotations 0 to 15, in sixteenths of a whole turn, and what they become modulo 16
 abbrev pub rotations : (ℕ → ℕ) → Words
-rotations become = map (λ r. (decimal r, decimal (become r % 16))) (range_with_len 0 16)
+rotations become = map (λ r. (decimal_of r, decimal_of (become r % 16))) (range_with_len 0 16)
 
 -- each side becomes the next one
 abbrev pub next_sides : Words
