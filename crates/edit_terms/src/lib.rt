@@ -22,6 +22,7 @@ mod region;
 mod script;
 mod step;
 mod transform;
+mod transform_laws;
 mod world_box;
 
 pub use block_name::BlockName;
@@ -41,4 +42,8 @@ pub use region::{Kind, Region, Selection};
 pub use script::{Case, Command, Line, Script};
 pub use step::{Refusal, Spec, Step, Work};
 pub use transform::Transform;
+pub use transform_laws::{
+    flip_after_a_transform, flip_along_z, four_quarter_turns, inverse_transform,
+    turned_states_are_states, turns_after_a_transform, two_flips,
+};
 pub use world_box::WorldBox;
