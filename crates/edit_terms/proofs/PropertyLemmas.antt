@@ -22,11 +22,11 @@ by_key = slice_cmp nat_cmp
 pub one_key : (x y : List ℕ) → by_key x y ≡ Equal → x ≡ y
 one_key = slice_cmp-IsAntisymmetric nat_cmp-IsAntisymmetric
 
-is_so : (b : Bool) → b ≡ true → T b
+pub is_so : (b : Bool) → b ≡ true → T b
 is_so true h = tt
 is_so false h = absurd cc
 
-so_is : (b : Bool) → T b → b ≡ true
+pub so_is : (b : Bool) → T b → b ≡ true
 so_is true h = refl
 so_is false h = absurd h
 

@@ -1,12 +1,12 @@
 -- State texts: a text that spells a state is read as that state, and what is read as a state spells it. The bytes
 -- at which texts are cut stand in no name, key or value, so the pieces of a spelled text are the parts that it was
 -- joined from.
-use Rattle.std.proofs.Common.{◌≡◌, ℕ, zero, suc, ◌+◌, ◌<◌, ◌≤◌, Bool, true, false, not, ◌&&◌, ◌||◌, cond, ◌⊎◌, inl, inr, List, [], ◌∷◌, ◌++◌, length, map, get_or, take, drop, Option, Some, None, refl, sym, ap, ◌∙◌, subst, arith, leb, ltb, append_assoc, append-nil, length-append}
+use Rattle.std.proofs.Common.{◌≡◌, ℕ, zero, suc, ◌+◌, ◌<◌, ◌≤◌, Bool, true, false, not, ◌&&◌, ◌||◌, cond, ◌⊎◌, inl, inr, T, List, [], ◌∷◌, ◌++◌, length, map, get_or, take, drop, Option, Some, None, refl, sym, ap, ◌∙◌, subst, arith, leb, ltb, append_assoc, append-nil, length-append}
 use Rattle.std.specs.Prelude.{nat_le, nat_lt, ◌==◌, Result, Ok, Err, is_some, codes, bytes_eq, position}
 use Rattle.std.specs.List.{list_all, list_any, slice_split, onto_first, join_with_byte, position_or_len, before_first, after_first}
 use Rattle.std.specs.Result.{result_ok, result_err, result_unwrap_or}
-use Rattle.std.specs.FinMap.Entries.{find, length-put}
-use Rattle.std.proofs.lemmas.Bool.{and_parts, and_from, or_parts, both_ways, leb-true, leb-false, le-leb, lt-leb, ltb-true, lt-ltb, eq-eqb, eqb-true, not-true, not_from_false, cond-true, or_left, or_right}
+use Rattle.std.specs.FinMap.Entries.{find, length-put, below_all, is_sorted}
+use Rattle.std.proofs.lemmas.Bool.{and_parts, and_from, or_parts, or_from, both_ways, leb-true, leb-false, le-leb, lt-leb, ltb-true, lt-ltb, eq-eqb, eqb-true, not-true, not_from_false, cond-true, or_left, or_right}
 use Rattle.std.proofs.lemmas.List.{append_cancel_left}
 use Rattle.std.proofs.lemmas.List.Folds.{list_all-append, list_any-append}
 use Rattle.std.proofs.lemmas.List.Sums.{split_at_first, passes_at_first}
@@ -14,9 +14,10 @@ use Rattle.std.proofs.lemmas.List.Splits.{join_with_byte-slice_split}
 use Rattle.std.proofs.lemmas.Slice.Eq.{bytes_eq-Decides}
 use Rattle.std.proofs.lemmas.Map.Text.{is_eq-slice_cmp}
 use Rattle.std.proofs.lemmas.Cmp.{nat_list_cmp_total}
-use Rattle.std.specs.Ordering.{eq_by_cmp}
+use Rattle.std.specs.Ordering.{eq_by_cmp, is_lt}
+use Rattle.std.specs.Cmp.{tied_itself}
 use Rattle.edit_terms.specs.StateText.{State, IsState, IsStateText, TextFault, BadName, BadProperty, RepeatedKey, TooManyProperties, is_word_byte, is_namespace_byte, is_path_byte, is_colon, is_part, is_split_at, is_block_name, with_namespace, is_property_word, is_property, has_key, is_each_key_new, sorted_properties, opening, closing, comma, equals, spelled_property, in_brackets, written_properties, written_state, cut_at, judged, listed_behind, listed_inside, listed_before_end, listed_in, state_listed, state_in, state_reading, state_of_text, state_text_fault}
-use Rattle.edit_terms.proofs.PropertyLemmas.{Pairs, by_key, one_key, IsFormed, formed, formed_sorted, find-sorted, sorted_rising, sorted_from_rising, with_sorted}
+use Rattle.edit_terms.proofs.PropertyLemmas.{Pairs, by_key, one_key, IsFormed, formed, formed_sorted, find-sorted, sorted_rising, sorted_from_rising, with_sorted, is_so, so_is}
 
 -- ---- cutting
 
@@ -242,3 +243,194 @@ read_from_text text s is =
     shorter : (name : List ℕ) (ps : Pairs) → is_block_name (with_namespace name) ≡ true → list_all is_property ps ≡ true → is_each_key_new [] ps ≡ true → length ps ≤ 16 → state_reading (name ++ written_properties ps) ≡ Ok (record { name = with_namespace name; properties = sorted_properties ps })
     shorter name [] named is new few = bare_read name named
     shorter name (p ∷ ps) named is new few = brackets_read name (p ∷ ps) named is new few
+
+-- ---- the written form
+
+below_missed : (x : List ℕ) (ps : Pairs) → below_all by_key x ps ≡ true → has_key ps x ≡ false
+below_missed x [] h = refl
+below_missed x (q ∷ ps) h =
+    let parts = and_parts (is_lt (by_key x q.0)) (below_all by_key x ps) h in
+    let tied : is_lt (by_key x x) ≡ false = ap is_lt (tied_itself nat_list_cmp_total x) in
+    or_from _ _ (elim (bytes_eq q.0 x) as (λ b. bytes_eq q.0 x ≡ b → b ≡ false) [
+        | true ↦ λ e. absurd (both_ways (is_lt (by_key x x)) tied (subst (λ k. is_lt (by_key x k) ≡ true) ((bytes_eq-Decides q.0 x).0 e) parts.0))
+        | false ↦ λ e. refl
+      ] refl) (below_missed x ps parts.1)
+
+new_rising : (earlier ps : Pairs) → T (is_sorted by_key ps) → ((k : List ℕ) → has_key ps k ≡ true → has_key earlier k ≡ false) → is_each_key_new earlier ps ≡ true
+new_rising earlier [] up apart = refl
+new_rising earlier (p ∷ ps) up apart =
+    let parts = and_parts (below_all by_key p.0 ps) (is_sorted by_key ps) (so_is _ up) in
+    let own : has_key (p ∷ ps) p.0 ≡ true = or_left _ _ ((bytes_eq-Decides p.0 p.0).1 refl) in
+    and_from _ _ (not_from_false _ (apart p.0 own)) (new_rising (earlier ++ p ∷ []) ps (is_so _ parts.1) (λ k has.
+      list_any-append (λ q. bytes_eq q.0 k) earlier (p ∷ [])
+      ∙ or_from _ _ (apart k (or_right _ _ has)) (or_from _ _ (elim (bytes_eq p.0 k) as (λ b. bytes_eq p.0 k ≡ b → b ≡ false) [
+          | true ↦ λ e. absurd (both_ways (has_key ps p.0) (below_missed p.0 ps parts.0) (subst (λ x. has_key ps x ≡ true) (sym ((bytes_eq-Decides p.0 k).0 e)) has))
+          | false ↦ λ e. refl
+        ] refl) refl)))
+
+-- a block's name keeps its namespace
+with_own_namespace : (name : List ℕ) → is_block_name name ≡ true → with_namespace name ≡ name
+with_own_namespace name h =
+    elim (position is_colon name) as (λ (o : Option ℕ). is_split_at name o ≡ true → cond (is_some o) name (codes "minecraft:" ++ name) ≡ name) [
+      | None ↦ λ is. absurd cc
+      | Some colon ↦ λ is. refl
+    ] (and_parts (nat_le (length name) 256) (is_split_at name (position is_colon name)) h).1
+
+-- the written form of a state stands for it
+pub written_stands : (s : State) → IsState s → IsStateText (written_state s) s
+written_stands s is =
+    let ps = formed s.properties is.formed in
+    record {
+      name = s.name;
+      listed = s.properties;
+      spelled = inr refl;
+      named = sym (with_own_namespace s.name is.named);
+      sorted = sym (sorted_rising s.properties ps.rising);
+      distinct = new_rising [] s.properties (sorted_from_rising s.properties ps.rising) (λ k has. refl);
+      formed = ps.all;
+      valid = is;
+    }
+
+-- a text stands for one state at most
+pub one_state : (text : List ℕ) (s t : State) → IsStateText text s → IsStateText text t → s ≡ t
+one_state text s t g h = ap (λ (r : Result State TextFault). result_unwrap_or r s) (sym (read_from_text text s g) ∙ read_from_text text t h)
+
+-- ---- what is read is spelled
+
+-- what a property that is judged to be good says of its text
+record IsJudged (earlier : Pairs) (pieces : List (List ℕ)) (p : List ℕ × List ℕ) : Type 0 where
+  cut : pieces ≡ p.0 ∷ p.1 ∷ []
+  property : is_property p ≡ true
+  new : has_key earlier p.0 ≡ false
+  few : length earlier < 16
+
+judged_is : (earlier : Pairs) (pieces : List (List ℕ)) (p : List ℕ × List ℕ) → judged earlier pieces ≡ Ok p → IsJudged earlier pieces p
+judged_is earlier [] p h = absurd cc
+judged_is earlier (key ∷ []) p h = absurd cc
+judged_is earlier (key ∷ value ∷ []) p h =
+    elim (is_property (key, value)) as (λ a. is_property (key, value) ≡ a → cond (not a) (Err BadProperty) (cond (has_key earlier key) (Err RepeatedKey) (cond (nat_le 16 (length earlier)) (Err TooManyProperties) (Ok (key, value)))) ≡ Ok p → IsJudged earlier (key ∷ value ∷ []) p) [
+      | false ↦ λ a h. absurd cc
+      | true ↦ λ a h. elim (has_key earlier key) as (λ b. has_key earlier key ≡ b → cond b (Err RepeatedKey) (cond (nat_le 16 (length earlier)) (Err TooManyProperties) (Ok (key, value))) ≡ Ok p → IsJudged earlier (key ∷ value ∷ []) p) [
+        | true ↦ λ b h. absurd cc
+        | false ↦ λ b h. elim (nat_le 16 (length earlier)) as (λ c. nat_le 16 (length earlier) ≡ c → cond c (Err TooManyProperties) (Ok (key, value)) ≡ Ok p → IsJudged earlier (key ∷ value ∷ []) p) [
+          | true ↦ λ c h. absurd cc
+          | false ↦ λ c h.
+              let same : (key, value) ≡ p = ap (λ (r : Result (List ℕ × List ℕ) TextFault). result_unwrap_or r (key, value)) h in
+              subst (λ (q : List ℕ × List ℕ). IsJudged earlier (key ∷ value ∷ []) q) same (record { cut = refl; property = a; new = b; few = leb-false 16 (length earlier) c })
+        ] refl h
+      ] refl h
+    ] refl h
+judged_is earlier (key ∷ value ∷ other ∷ more) p h = absurd cc
+
+-- what properties that are read say of their pieces
+record IsListed (earlier : Pairs) (pieces : List (List ℕ)) (all : Pairs) : Type 0 where
+  listed : Pairs
+  whole : all ≡ earlier ++ listed
+  spelled : pieces ≡ map spelled_property listed
+  formed : list_all is_property listed ≡ true
+  new : is_each_key_new earlier listed ≡ true
+  few : length listed + length earlier ≤ 16 ⊎ (listed ≡ [])
+
+piece_is : (earlier : Pairs) (piece : List ℕ) (p : List ℕ × List ℕ) → IsJudged earlier (cut_at equals piece) p → piece ≡ spelled_property p
+piece_is earlier piece p is = sym (join_with_byte-slice_split equals piece) ∙ ap (join_with_byte equals) is.cut
+
+listed_is : (earlier : Pairs) (pieces : List (List ℕ)) (all : Pairs) → listed_behind earlier pieces ≡ Ok all → IsListed earlier pieces all
+listed_is earlier [] all h =
+    let same : earlier ≡ all = ap (λ (r : Result Pairs TextFault). result_unwrap_or r []) h in
+    record { listed = []; whole = sym same ∙ sym (append-nil earlier); spelled = refl; formed = refl; new = refl; few = inr refl }
+listed_is earlier (piece ∷ pieces) all h =
+    elim (judged earlier (cut_at equals piece)) as (λ (r : Result (List ℕ × List ℕ) TextFault). judged earlier (cut_at equals piece) ≡ r
+        → elim r as (λ _. Result Pairs TextFault) [ Ok p ↦ listed_behind (earlier ++ p ∷ []) pieces | Err fault ↦ Err fault ] ≡ Ok all → IsListed earlier (piece ∷ pieces) all) [
+      | Ok p ↦ λ is h.
+          let one = judged_is earlier (cut_at equals piece) p is in
+          let rest = listed_is (earlier ++ p ∷ []) pieces all h in
+          let sum : length (earlier ++ p ∷ []) ≡ length earlier + 1 = length-append earlier (p ∷ []) in
+          let room = one.few in
+          record {
+            listed = p ∷ rest.listed;
+            whole = rest.whole ∙ append_assoc earlier (p ∷ []) rest.listed;
+            spelled = λ i. piece_is earlier piece p one i ∷ rest.spelled i;
+            formed = and_from _ _ one.property rest.formed;
+            new = and_from _ _ (not_from_false _ one.new) rest.new;
+            few = inl (elim rest.few [
+              | inl l ↦ omega (arith, l, sum)
+              | inr e ↦ let none : length rest.listed ≡ 0 = ap (λ (l : Pairs). length l) e in omega (arith, none, room)
+            ]);
+          }
+      | Err fault ↦ λ is h. absurd cc
+    ] refl h
+
+-- what the properties of a text say of it
+record IsInside (text : List ℕ) (ps : Pairs) : Type 0 where
+  spelled : text ≡ join_with_byte comma (map spelled_property ps)
+  formed : list_all is_property ps ≡ true
+  new : is_each_key_new [] ps ≡ true
+  few : length ps ≤ 16
+
+inside_is : (text : List ℕ) (ps : Pairs) → listed_inside text ≡ Ok ps → IsInside text ps
+inside_is [] ps h =
+    let same : [] ≡ ps = ap (λ (r : Result Pairs TextFault). result_unwrap_or r []) h in
+    subst (λ (l : Pairs). IsInside [] l) same (record { spelled = refl; formed = refl; new = refl; few = omega arith })
+inside_is (b ∷ text) ps h =
+    let is = listed_is [] (cut_at comma (b ∷ text)) ps h in
+    let same : is.listed ≡ ps = sym is.whole in
+    subst (λ (l : Pairs). IsInside (b ∷ text) l) same (record {
+      spelled = sym (join_with_byte-slice_split comma (b ∷ text)) ∙ ap (join_with_byte comma) is.spelled;
+      formed = is.formed;
+      new = is.new;
+      few = elim is.few [ inl l ↦ omega (arith, l) | inr e ↦ (let none : length is.listed ≡ 0 = ap (λ (l : Pairs). length l) e in omega (arith, none)) ];
+    })
+
+-- what the properties of the pieces behind a name say of them
+record IsBehind (name : List ℕ) (pieces : List (List ℕ)) (ps : Pairs) : Type 0 where
+  spelled : (join_with_byte opening (name ∷ pieces) ≡ name ++ in_brackets ps) ⊎ (join_with_byte opening (name ∷ pieces) ≡ name ++ written_properties ps)
+  formed : list_all is_property ps ≡ true
+  new : is_each_key_new [] ps ≡ true
+  few : length ps ≤ 16
+
+before_end_is : (name rest : List ℕ) (pieces : List (List ℕ)) (ps : Pairs) → cut_at closing rest ≡ pieces → listed_before_end pieces ≡ Ok ps → IsBehind name (rest ∷ []) ps
+before_end_is name rest [] ps e h = absurd cc
+before_end_is name rest (inside ∷ []) ps e h = absurd cc
+before_end_is name rest (inside ∷ [] ∷ []) ps e h =
+    let is = inside_is inside ps h in
+    let whole : rest ≡ join_with_byte comma (map spelled_property ps) ++ closing ∷ [] =
+      sym (join_with_byte-slice_split closing rest) ∙ ap (join_with_byte closing) e ∙ ap (λ (l : List ℕ). l ++ closing ∷ []) is.spelled in
+    record { spelled = inl (ap (λ (l : List ℕ). name ++ opening ∷ l) whole); formed = is.formed; new = is.new; few = is.few }
+before_end_is name rest (inside ∷ [] ∷ other ∷ more) ps e h = absurd cc
+before_end_is name rest (inside ∷ (b ∷ bytes) ∷ more) ps e h = absurd cc
+
+behind_is : (name : List ℕ) (pieces : List (List ℕ)) (ps : Pairs) → listed_in pieces ≡ Ok ps → IsBehind name pieces ps
+behind_is name [] ps h =
+    let same : [] ≡ ps = ap (λ (r : Result Pairs TextFault). result_unwrap_or r []) h in
+    subst (λ (l : Pairs). IsBehind name [] l) same (record { spelled = inr (sym (append-nil name)); formed = refl; new = refl; few = omega arith })
+behind_is name (rest ∷ []) ps h = before_end_is name rest (cut_at closing rest) ps refl h
+behind_is name (rest ∷ other ∷ more) ps h = absurd cc
+
+text_from_pieces : (text : List ℕ) (pieces : List (List ℕ)) (s : State) → cut_at opening text ≡ pieces → state_in pieces ≡ Ok s → IsStateText text s
+text_from_pieces text [] s e h = absurd cc
+text_from_pieces text (name ∷ pieces) s e h =
+    elim (is_block_name (with_namespace name)) as (λ b. is_block_name (with_namespace name) ≡ b → cond b (state_listed (with_namespace name) (listed_in pieces)) (Err BadName) ≡ Ok s → IsStateText text s) [
+      | false ↦ λ named h. absurd cc
+      | true ↦ λ named h. elim (listed_in pieces) as (λ (r : Result Pairs TextFault). listed_in pieces ≡ r → state_listed (with_namespace name) r ≡ Ok s → IsStateText text s) [
+        | Err fault ↦ λ is h. absurd cc
+        | Ok ps ↦ λ is h.
+            let all = behind_is name pieces ps is in
+            let joined : text ≡ join_with_byte opening (name ∷ pieces) = sym (join_with_byte-slice_split opening text) ∙ ap (join_with_byte opening) e in
+            let state : State = record { name = with_namespace name; properties = sorted_properties ps } in
+            let same : state ≡ s = ap (λ (r : Result State TextFault). result_unwrap_or r state) h in
+            subst (λ (t : State). IsStateText text t) same (record {
+              name = name;
+              listed = ps;
+              spelled = elim all.spelled [ inl f ↦ inl (joined ∙ f) | inr f ↦ inr (joined ∙ f) ];
+              named = refl;
+              sorted = refl;
+              distinct = all.new;
+              formed = all.formed;
+              valid = record { named = named; formed = formed_sorted ps all.few all.formed };
+            })
+      ] refl h
+    ] refl h
+
+-- what is read as a state stands for it
+pub text_from_read : (text : List ℕ) (s : State) → state_reading text ≡ Ok s → IsStateText text s
+text_from_read text s h = text_from_pieces text (cut_at opening text) s refl h
