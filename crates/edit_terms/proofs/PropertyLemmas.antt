@@ -9,8 +9,15 @@ use Rattle.std.specs.Cmp.Lexicographic.{slice_cmp}
 use Rattle.std.specs.FinMap.{slice_cmp-IsAntisymmetric, nat_cmp-IsAntisymmetric}
 use Rattle.std.specs.FinMap.Entries.{put, find, is_sorted, below_all, by_order, is_sorted-put, find-put, same_entries, length-put}
 use Rattle.std.proofs.lemmas.Cmp.{nat_list_cmp_total}
-use Rattle.std.proofs.lemmas.Bool.{and_parts, and_from, leb-true, le-leb, both_ways, cases_Bool}
-use Rattle.edit_terms.specs.StateText.{is_property, is_below_first, is_key_below, is_rising, is_properties, put_property, with_properties, sorted_properties}
+use Rattle.std.specs.Prelude.{bytes_eq}
+use Rattle.std.specs.Option.{option_or}
+use Rattle.std.specs.List as list
+use Rattle.std.specs.List.Sorted.{IsPermutation}
+use Rattle.std.proofs.lemmas.List.Sorted.{IsPermutation-refl, IsPermutation-sym, IsPermutation-trans, IsPermutation-cons, IsPermutation-middle}
+use Rattle.std.proofs.lemmas.Slice.Eq.{bytes_eq-Decides}
+use Rattle.std.proofs.lemmas.Map.Text.{is_eq-slice_cmp}
+use Rattle.std.proofs.lemmas.Bool.{and_parts, and_from, leb-true, le-leb, both_ways, cond-true, cond-false}
+use Rattle.edit_terms.specs.StateText.{is_property, is_below_first, is_key_below, is_rising, is_properties, put_property, with_properties, sorted_properties, property_of}
 
 abbrev pub Pairs : Type 0
 Pairs = List (List ℕ × List ℕ)
@@ -185,3 +192,48 @@ find-map change k q (p ∷ ps) =
 pub sorted-map-sorted : (change : List ℕ × List ℕ → List ℕ × List ℕ) → IsKeyed change → (ps : Pairs) → sorted_properties (map change (sorted_properties ps)) ≡ sorted_properties (map change ps)
 sorted-map-sorted change k ps = same_sorted _ _
     (λ q. find-map change k q (sorted_properties ps) ∙ ap (option_map (k.value (k.back q))) (find-sorted (k.back q) ps) ∙ sym (find-map change k q ps))
+
+-- ---- sorting moves properties, and replaces values
+
+put-IsPermutation : (p : List ℕ × List ℕ) (ps : Pairs) → find by_key p.0 ps ≡ None → IsPermutation (p ∷ ps) (put_property p ps)
+put-IsPermutation p [] none = IsPermutation-refl (p ∷ [])
+put-IsPermutation p (q ∷ qs) none =
+    elim (by_key p.0 q.0) as (λ r. cond (is_eq r) (Some q.1) (find by_key p.0 qs) ≡ None → IsPermutation (p ∷ q ∷ qs) (by_order r (p ∷ q ∷ qs) ((q.0, p.1) ∷ qs) (q ∷ put_property p qs))) [
+      | Less ↦ λ e. IsPermutation-refl (p ∷ q ∷ qs)
+      | Equal ↦ λ e. absurd cc
+      | Greater ↦ λ e. IsPermutation-trans (p ∷ q ∷ qs) (q ∷ p ∷ qs) (q ∷ put_property p qs)
+          (IsPermutation-sym (q ∷ p ∷ qs) (p ∷ q ∷ qs) (IsPermutation-middle (q ∷ []) p qs)) (IsPermutation-cons q (p ∷ qs) (put_property p qs) (put-IsPermutation p qs e))
+    ] none
+
+pub sorted_more : (p : List ℕ × List ℕ) (ps : Pairs) → find by_key p.0 ps ≡ None → IsPermutation ps (sorted_properties ps) → IsPermutation (p ∷ ps) (sorted_properties (p ∷ ps))
+sorted_more p ps none h = IsPermutation-trans (p ∷ ps) (p ∷ sorted_properties ps) (sorted_properties (p ∷ ps)) (IsPermutation-cons p ps (sorted_properties ps) h) (put-IsPermutation p (sorted_properties ps) (find-sorted p.0 ps ∙ none))
+
+-- the value of a key, by the order of keys
+pub property_of-find : (ps : Pairs) (key : List ℕ) → property_of ps key ≡ find by_key key ps
+property_of-find [] key = refl
+property_of-find (p ∷ ps) key =
+    elim (bytes_eq p.0 key) as (λ b. bytes_eq p.0 key ≡ b → option_map (λ (q : List ℕ × List ℕ). q.1) (cond b (Some p) (list.find (λ q. bytes_eq q.0 key) ps)) ≡ cond (eq_by_cmp by_key key p.0) (Some p.1) (find by_key key ps)) [
+      | true ↦ λ e. sym (cond-true _ _ _ (is_eq-slice_cmp key p.0 ∙ (bytes_eq-Decides key p.0).1 (sym ((bytes_eq-Decides p.0 key).0 e))))
+      | false ↦ λ e. property_of-find ps key ∙ sym (cond-false _ _ _ (is_eq-slice_cmp key p.0 ∙ apart e))
+    ] refl
+  where
+    apart : bytes_eq p.0 key ≡ false → bytes_eq key p.0 ≡ false
+    apart e = elim (bytes_eq key p.0) as (λ b. bytes_eq key p.0 ≡ b → b ≡ false) [
+        | true ↦ λ f. absurd (both_ways (bytes_eq p.0 key) e ((bytes_eq-Decides p.0 key).1 (sym ((bytes_eq-Decides key p.0).0 f))))
+        | false ↦ λ f. refl
+      ] refl
+
+find-with : (old ps : Pairs) (q : List ℕ) → find by_key q (with_properties old ps) ≡ option_or (find by_key q ps) (find by_key q old)
+find-with old [] q = refl
+find-with old (p ∷ ps) q =
+    find-put by_key nat_list_cmp_total q p.0 p.1 (with_properties old ps)
+    ∙ ap (cond (eq_by_cmp by_key q p.0) (Some p.1)) (find-with old ps q)
+    ∙ elim (eq_by_cmp by_key q p.0) as (λ b. cond b (Some p.1) (option_or (find by_key q ps) (find by_key q old)) ≡ option_or (cond b (Some p.1) (find by_key q ps)) (find by_key q old)) [ true ↦ refl | false ↦ refl ]
+
+-- the value of a key among properties that were replaced or added
+pub property_of-with : (old ps : Pairs) (key : List ℕ) → property_of (with_properties old ps) key ≡ option_or (property_of ps key) (property_of old key)
+property_of-with old ps key =
+    property_of-find (with_properties old ps) key ∙ find-with old ps key ∙ sym (λ i. option_or (property_of-find ps key i) (property_of-find old key i))
+
+pub rising_with : (old ps : Pairs) → is_rising old ≡ true → is_rising (with_properties old ps) ≡ true
+rising_with old ps h = rising_from_sorted (with_properties old ps) (with_sorted old ps (sorted_from_rising old h))

@@ -1,7 +1,7 @@
 -- State texts: a text that spells a state is read as that state, and what is read as a state spells it. The bytes
 -- at which texts are cut stand in no name, key or value, so the pieces of a spelled text are the parts that it was
 -- joined from.
-use Rattle.std.proofs.Common.{◌≡◌, ℕ, zero, suc, ◌+◌, ◌<◌, ◌≤◌, Bool, true, false, not, ◌&&◌, ◌||◌, cond, ◌⊎◌, inl, inr, T, List, [], ◌∷◌, ◌++◌, length, map, get_or, take, drop, Option, Some, None, refl, sym, ap, ◌∙◌, subst, arith, leb, ltb, append_assoc, append-nil, length-append}
+use Rattle.std.proofs.Common.{◌≡◌, ℕ, zero, suc, ◌+◌, ◌<◌, ◌≤◌, Bool, true, false, not, ◌&&◌, ◌||◌, cond, ◌⊎◌, inl, inr, T, ◌↔◌, List, [], ◌∷◌, ◌++◌, length, map, get_or, take, drop, Option, Some, None, refl, sym, ap, ◌∙◌, subst, arith, leb, ltb, append_assoc, append-nil, length-append}
 use Rattle.std.specs.Prelude.{nat_le, nat_lt, ◌==◌, Result, Ok, Err, is_some, codes, bytes_eq, position}
 use Rattle.std.specs.List.{list_all, list_any, slice_split, onto_first, join_with_byte, position_or_len, before_first, after_first}
 use Rattle.std.specs.Result.{result_ok, result_err, result_unwrap_or}
@@ -11,13 +11,16 @@ use Rattle.std.proofs.lemmas.List.{append_cancel_left}
 use Rattle.std.proofs.lemmas.List.Folds.{list_all-append, list_any-append}
 use Rattle.std.proofs.lemmas.List.Sums.{split_at_first, passes_at_first}
 use Rattle.std.proofs.lemmas.List.Splits.{join_with_byte-slice_split}
+use Rattle.std.specs.Option.{unwrap_or}
+use Rattle.std.specs.List.Sorted.{IsPermutation}
+use Rattle.std.proofs.lemmas.List.Sorted.{IsPermutation-refl}
 use Rattle.std.proofs.lemmas.Slice.Eq.{bytes_eq-Decides}
 use Rattle.std.proofs.lemmas.Map.Text.{is_eq-slice_cmp}
 use Rattle.std.proofs.lemmas.Cmp.{nat_list_cmp_total}
 use Rattle.std.specs.Ordering.{eq_by_cmp, is_lt}
 use Rattle.std.specs.Cmp.{tied_itself}
-use Rattle.edit_terms.specs.StateText.{State, IsState, IsStateText, TextFault, BadName, BadProperty, RepeatedKey, TooManyProperties, is_word_byte, is_namespace_byte, is_path_byte, is_colon, is_part, is_split_at, is_block_name, with_namespace, is_property_word, is_property, has_key, is_each_key_new, sorted_properties, opening, closing, comma, equals, spelled_property, in_brackets, written_properties, written_state, cut_at, judged, listed_behind, listed_inside, listed_before_end, listed_in, state_listed, state_in, state_reading, state_of_text, state_text_fault}
-use Rattle.edit_terms.proofs.PropertyLemmas.{Pairs, by_key, one_key, IsFormed, formed, formed_sorted, find-sorted, sorted_rising, sorted_from_rising, with_sorted, is_so, so_is}
+use Rattle.edit_terms.specs.StateText.{State, IsState, IsStateText, IsSomeStateText, TextFault, BadName, BadProperty, RepeatedKey, TooManyProperties, is_word_byte, is_namespace_byte, is_path_byte, is_colon, is_part, is_split_at, is_block_name, with_namespace, is_property_word, is_property, has_key, is_each_key_new, sorted_properties, opening, closing, comma, equals, spelled_property, in_brackets, written_properties, written_state, cut_at, judged, listed_behind, listed_inside, listed_before_end, listed_in, state_listed, state_in, state_reading, state_of_text, state_text_fault}
+use Rattle.edit_terms.proofs.PropertyLemmas.{Pairs, by_key, one_key, IsFormed, formed, formed_sorted, find-sorted, sorted_rising, sorted_from_rising, with_sorted, sorted_more, is_so, so_is}
 
 -- ---- cutting
 
@@ -434,3 +437,31 @@ text_from_pieces text (name ∷ pieces) s e h =
 -- what is read as a state stands for it
 pub text_from_read : (text : List ℕ) (s : State) → state_reading text ≡ Ok s → IsStateText text s
 text_from_read text s h = text_from_pieces text (cut_at opening text) s refl h
+
+-- ---- sorting
+
+-- sorting properties of distinct keys moves them
+pub sorted-IsPermutation : (earlier ps : Pairs) → is_each_key_new earlier ps ≡ true → IsPermutation ps (sorted_properties ps)
+sorted-IsPermutation earlier [] new = IsPermutation-refl []
+sorted-IsPermutation earlier (p ∷ ps) new =
+    let news = and_parts (not (has_key earlier p.0)) (is_each_key_new (earlier ++ p ∷ []) ps) new in
+    let own : has_key (p ∷ []) p.0 ≡ true = or_left _ _ ((bytes_eq-Decides p.0 p.0).1 refl) in
+    let has : has_key (earlier ++ p ∷ []) p.0 ≡ true = list_any-append (λ q. bytes_eq q.0 p.0) earlier (p ∷ []) ∙ or_right _ _ own in
+    sorted_more p ps (found_new (earlier ++ p ∷ []) ps p.0 has news.1) (sorted-IsPermutation (earlier ++ p ∷ []) ps news.1)
+
+-- ---- faults
+
+-- a text has no fault exactly where it stands for a state
+pub no_fault : (text : List ℕ) → (state_text_fault text ≡ None) ↔ IsSomeStateText text
+no_fault text =
+    (λ none. elim (state_reading text) as (λ (r : Result State TextFault). state_reading text ≡ r → result_err r ≡ None → IsSomeStateText text) [
+        | Ok s ↦ λ e n. record { state = s; is = text_from_read text s e }
+        | Err fault ↦ λ e n. absurd cc
+      ] refl none, λ some. ap result_err (read_from_text text some.state some.is))
+
+pub state_read : (text : List ℕ) (s : State) → (state_of_text text ≡ Some s) ↔ IsStateText text s
+state_read text s =
+    (λ e. text_from_read text s (elim (state_reading text) as (λ (r : Result State TextFault). result_ok r ≡ Some s → r ≡ Ok s) [
+        | Ok t ↦ λ f. ap Ok (ap (λ (o : Option State). unwrap_or o s) f)
+        | Err fault ↦ λ f. absurd cc
+      ] e), λ is. ap result_ok (read_from_text text s is))

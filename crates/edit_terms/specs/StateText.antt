@@ -149,6 +149,11 @@ pub record IsStateText (text : List ℕ) (s : State) : Type 0 where
   pub formed : list_all is_property listed ≡ true
   pub valid : IsState s
 
+-- a text that stands for some state
+pub record IsSomeStateText (text : List ℕ) : Type 0 where
+  pub state : State
+  pub is : IsStateText text state
+
 -- Why a text stands for no state.
 pub data TextFault : Type 0 where
   BadName : TextFault

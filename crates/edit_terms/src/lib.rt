@@ -20,6 +20,7 @@ mod pos;
 mod properties;
 mod region;
 mod script;
+mod state_laws;
 mod step;
 mod transform;
 mod transform_laws;
@@ -40,6 +41,9 @@ pub use pos::Pos;
 pub use properties::Properties;
 pub use region::{Kind, Region, Selection};
 pub use script::{Case, Command, Line, Script};
+pub use state_laws::{
+    one_state_a_text, replacing_properties, sorting_properties, states_and_faults, written_form,
+};
 pub use step::{Refusal, Spec, Step, Work};
 pub use transform::Transform;
 pub use transform_laws::{
