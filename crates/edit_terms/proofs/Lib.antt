@@ -6,4 +6,5 @@ pub mod StateTextLemmas
 pub mod TurnLemmas
 pub mod PositionTurns
 pub mod StateTurns
+pub mod ClipboardLemmas
 mod StateExamples

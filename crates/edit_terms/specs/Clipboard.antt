@@ -1,12 +1,13 @@
 -- A clipboard: the blocks of a selection as they stood when they were copied, at positions relative to a
 -- placement position, turned.
-use Rattle.std.specs.Prelude.{ℕ, ◌+◌, ◌==◌, ◌&&◌, if◌then◌else◌, ℤ, pos, ◌+ℤ◌, ◌-ℤ◌, neg_ℤ, Option, Some, None}
+use Rattle.std.specs.Prelude.{◌≡◌, ℕ, ◌+◌, Bool, true, false, ◌==◌, ◌&&◌, if◌then◌else◌, ℤ, pos, ◌+ℤ◌, ◌-ℤ◌, neg_ℤ, Option, Some, None}
 use Rattle.std.specs.Int.{int_max, int_min, int_gap, int_rem_euclid}
 use Rattle.std.specs.Option.{option_map_or, unwrap_or}
 use Rattle.edit_terms.specs.declared.pos.Pos.{Pos}
 use Rattle.edit_terms.specs.declared.direction.Direction.{Direction}
 use Rattle.edit_terms.specs.declared.direction.Direction.TheVariants.{North, South, East, West, Up, Down}
 use Rattle.edit_terms.specs.declared.transform.Transform.{Transform}
+use Rattle.edit_terms.specs.declared.region.Selection.{Selection}
 use Rattle.edit_terms.specs.declared.clip.Clip.{Clip}
 use Rattle.edit_terms.specs.Area.{Area, holds, volume}
 use Rattle.edit_terms.specs.Region.{is_selected}
@@ -62,10 +63,18 @@ clip_box_of frame clip area =
     if volume shared == 0 then None
     else Some (turned_area clip.transform (record shared { least = relative_to clip.origin shared.least }))
 
+-- the box has every position of the selection
+abbrev pub Encloses : Area → Selection → Type 0
+Encloses frame selection = (p : Pos) → is_selected selection p ≡ true → holds frame p ≡ true
+
 -- A clipboard's bounds, and its content at each relative position that it has one at.
 pub record CopiedBlocks : Type 0 where
   pub bounds : Option Area
   pub at : Pos → Option BlockContent
+
+-- there are bounds, and the relative position lies in them
+abbrev pub is_in_bounds : CopiedBlocks → Pos → Bool
+is_in_bounds copied r = option_map_or (λ bounds. holds bounds r) copied.bounds false
 
 -- a clipboard without blocks
 abbrev pub no_blocks : CopiedBlocks

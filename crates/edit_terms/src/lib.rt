@@ -16,6 +16,7 @@ mod grid;
 mod items;
 mod outcome;
 mod pattern;
+mod pattern_laws;
 mod pos;
 mod properties;
 mod region;
@@ -37,6 +38,9 @@ pub use items::{Items, Name};
 pub use memory::Memory;
 pub use outcome::{Outcome, Reply};
 pub use pattern::{Entry, Pattern, Value};
+pub use pattern_laws::{
+    clipboard_cells_lie_in_its_bounds, some_entry_is_chosen, the_only_entry_is_chosen,
+};
 pub use pos::Pos;
 pub use properties::Properties;
 pub use region::{Kind, Region, Selection};
