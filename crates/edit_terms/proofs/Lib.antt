@@ -8,3 +8,5 @@ pub mod PositionTurns
 pub mod StateTurns
 pub mod ClipboardLemmas
 mod StateExamples
+mod TurnExamples
+mod PatternExamples

@@ -1,16 +1,7 @@
--- Worked examples of state texts, turns and pattern values, each by computation.
-use Rattle.std.proofs.Common.{◌≡◌, ℕ, refl, List, [], ◌∷◌, ◌++◌, Some, None, pos}
-use Rattle.std.specs.Prelude.{codes, Option}
-use Rattle.edit_terms.specs.declared.pos.Pos.{Pos}
-use Rattle.edit_terms.specs.declared.direction.Direction.TheVariants.{North, East, Up}
-use Rattle.edit_terms.specs.declared.pattern.Value.TheVariants.{Rename, Put, RenamePut, Fixed}
-use Rattle.edit_terms.specs.StateText.{State, TextFault, BadName, BadProperty, RepeatedKey, TooManyProperties, state_of_text, state_text_fault, written_state}
-use Rattle.edit_terms.specs.World.{BlockContent, EntityTags, without_entity}
-use Rattle.edit_terms.specs.Transform.{quarter_turned_state, flipped_state, turned_property, quarter_table, x_table, z_table, y_table}
-use Rattle.edit_terms.specs.Clipboard.{CopiedBlocks, tiled, tile_of}
-use Rattle.edit_terms.specs.Pattern.{applied}
-
--- ---- texts
+-- Worked examples of state texts, each by computation.
+use Rattle.std.proofs.Common.{◌≡◌, refl, [], ◌∷◌, Some, None}
+use Rattle.std.specs.Prelude.{codes}
+use Rattle.edit_terms.specs.StateText.{BadName, BadProperty, RepeatedKey, TooManyProperties, state_of_text, state_text_fault, written_state}
 
 keys_in_any_order : state_of_text (codes "oak_stairs[half=top,facing=east]") ≡ Some (record {
   name = codes "minecraft:oak_stairs";
