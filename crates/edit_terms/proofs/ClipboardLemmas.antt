@@ -1,12 +1,12 @@
 -- The cells of a clipboard lie in its bounds: what lies in two boxes lies in their overlap, and turns and flips of a
 -- box and of its positions go together.
 use Rattle.std.proofs.Common.{◌≡◌, ℕ, zero, suc, ◌+◌, ◌-◌, ◌*◌, ◌%◌, ◌<◌, ◌≤◌, Bool, true, false, ◌&&◌, cond, ℤ, pos, negsuc, ◌+ℤ◌, ◌-ℤ◌, ◌≤ℤ◌, ◌<ℤ◌, Option, Some, None, refl, sym, ap, ◌∙◌, subst, arith}
-use Rattle.std.specs.Prelude.{neg_ℤ, int_le, int_lt, ◌==◌, is_some}
+use Rattle.std.specs.Prelude.{⊤, neg_ℤ, int_le, int_lt, ◌==◌, is_some}
 use Rattle.std.specs.Int.{int_max, int_min, int_gap}
 use Rattle.std.specs.Option.{option_map_or}
 use Rattle.std.proofs.lemmas.Bool.{and_parts, and_from, ne_eqb, cond-true}
 use Rattle.std.proofs.lemmas.Int.{ints, clamps}
-use Rattle.std.proofs.lemmas.Nat.{mul-lt}
+use Rattle.std.proofs.lemmas.Nat.{mul-lt, mod_below}
 use Rattle.edit_terms.specs.declared.pos.Pos.{Pos}
 use Rattle.edit_terms.specs.declared.direction.Direction.{Direction}
 use Rattle.edit_terms.specs.declared.direction.Direction.TheVariants.{North, South, East, West, Up, Down}
@@ -15,9 +15,9 @@ use Rattle.edit_terms.specs.declared.clip.Clip.{Clip}
 use Rattle.edit_terms.specs.Area.{Area, is_from, holds, volume}
 use Rattle.edit_terms.specs.Region.{is_selected}
 use Rattle.edit_terms.specs.World.{World, content_at}
-use Rattle.edit_terms.specs.Transform.{times, transformed, quarter_turned_position, flipped_position, turned_position, source_position, turned_content}
-use Rattle.edit_terms.specs.Clipboard.{shared_size, overlap, relative_to, placed_at, mirrored, quarter_turned_area, flipped_area, turned_area, clip_box_of, copied_from, copied_content, clipboard_of, Encloses, is_in_bounds}
-use Rattle.edit_terms.proofs.TurnLemmas.{transformed-undone}
+use Rattle.edit_terms.specs.Transform.{times, transformed, undone, quarter_turned_position, flipped_position, turned_position, source_position, turned_content}
+use Rattle.edit_terms.specs.Clipboard.{shared_size, overlap, relative_to, placed_at, mirrored, quarter_turned_area, flipped_area, turned_area, clip_box_of, copied_from, copied_content, clipboard_of, Encloses, is_in_bounds, tile_coordinate, tile_of}
+use Rattle.edit_terms.proofs.TurnLemmas.{IsTurning, transformed-undone, undone-transformed}
 use Rattle.edit_terms.proofs.PositionTurns.{position_turning}
 
 -- ---- one coordinate
@@ -130,6 +130,113 @@ held_transformed t a r h =
     let box = cond t.flip_x (flipped_area East a) a in
     let q = cond t.flip_x (flipped_position East r) r in
     held_times (t.turns % 4) (cond t.flip_y (flipped_area Up box) box) (cond t.flip_y (flipped_position Up q) q) (held_if t.flip_y Up box q (held_if t.flip_x East a r h))
+
+-- ---- boxes are turned and flipped as their positions
+
+mirrored_twice : (low : ℤ) (size : ℕ) → mirrored (mirrored low size) size ≡ low
+mirrored_twice low size = omega (arith, ints)
+
+-- every box may be turned
+abbrev pub AnyArea : Area → Type 0
+AnyArea a = ⊤
+
+area_twice : (to : Direction) (a : Area) → flipped_area to (flipped_area to a) ≡ a
+area_twice North a = λ i. record a { least = record a.least { z = mirrored_twice a.least.z a.length i } }
+area_twice South a = λ i. record a { least = record a.least { z = mirrored_twice a.least.z a.length i } }
+area_twice East a = λ i. record a { least = record a.least { x = mirrored_twice a.least.x a.width i } }
+area_twice West a = λ i. record a { least = record a.least { x = mirrored_twice a.least.x a.width i } }
+area_twice Up a = λ i. record a { least = record a.least { y = mirrored_twice a.least.y a.height i } }
+area_twice Down a = λ i. record a { least = record a.least { y = mirrored_twice a.least.y a.height i } }
+
+pub area_turning : IsTurning AnyArea quarter_turned_area flipped_area
+area_turning = record {
+  turned = λ a h. tt;
+  flipped = λ to a h. tt;
+  four = λ a h i. record a { least = record { x = mirrored_twice a.least.x a.width i; y = a.least.y; z = mirrored_twice a.least.z a.length i } };
+  twice = λ to a h. area_twice to a;
+  along_z = λ a h. let e = sym (mirrored_twice a.least.x a.width) in λ i. record a { least = record { x = e i; y = a.least.y; z = mirrored a.least.z a.length } };
+  south = λ a. refl;
+  west = λ a. refl;
+  down = λ a. refl;
+  mirrored = λ a h. let e = sym (mirrored_twice a.least.x a.width) in λ i. record {
+    least = record { x = mirrored (mirrored a.least.z a.length) a.length; y = a.least.y; z = e i };
+    width = a.length;
+    height = a.height;
+    length = a.width;
+  };
+  upright = λ a h. refl;
+  apart = λ a h. refl;
+}
+
+held_undone : (t : Transform) (a : Area) (r : Pos) → holds a r ≡ true → holds (undone quarter_turned_area flipped_area t a) (source_position t r) ≡ true
+held_undone t a r h =
+    let box = times ((4 - t.turns % 4) % 4) quarter_turned_area a in
+    let q = times ((4 - t.turns % 4) % 4) quarter_turned_position r in
+    held_if t.flip_x East (cond t.flip_y (flipped_area Up box) box) (cond t.flip_y (flipped_position Up q) q) (held_if t.flip_y Up box q (held_times ((4 - t.turns % 4) % 4) a r h))
+
+answers_alike : (s t : Bool) → (s ≡ true → t ≡ true) → (t ≡ true → s ≡ true) → s ≡ t
+answers_alike true t f g = sym (f refl)
+answers_alike false true f g = g refl
+answers_alike false false f g = refl
+
+-- a box after a transform has the positions of the box after it, and no other
+pub holds-turned : (t : Transform) (a : Area) (r : Pos) → holds (turned_area t a) (turned_position t r) ≡ holds a r
+holds-turned t a r = answers_alike (holds (turned_area t a) (turned_position t r)) (holds a r)
+    (λ h. subst (λ (b : Area). holds b r ≡ true) (undone-transformed area_turning t a tt)
+      (subst (λ (q : Pos). holds (undone quarter_turned_area flipped_area t (turned_area t a)) q ≡ true) (undone-transformed position_turning t r tt) (held_undone t (turned_area t a) (turned_position t r) h)))
+    (held_transformed t a r)
+
+-- a coordinate below the end of a gap is below its upper number
+below_gap : (a b v : ℤ) → a ≤ℤ v → v <ℤ (a +ℤ pos (int_gap a b)) → v <ℤ b
+below_gap (pos a) (pos b) v g h = omega (arith, ints, g, h)
+below_gap (pos a) (negsuc b) v g h = absurd (omega (arith, ints, g, h))
+below_gap (negsuc a) (pos b) v g h = omega (arith, ints, g, h)
+below_gap (negsuc a) (negsuc b) v g h = omega (arith, ints, g, h)
+
+-- one coordinate of both
+record IsInBoth (low : ℤ) (size : ℕ) (first : ℤ) (count : ℕ) (v : ℤ) : Type 0 where
+  one : is_from low size v ≡ true
+  other : is_from first count v ≡ true
+
+shared_from : (low : ℤ) (size : ℕ) (first : ℤ) (count : ℕ) (v : ℤ) → is_from (int_max low first) (shared_size low size first count) v ≡ true → IsInBoth low size first count v
+shared_from low size first count v h =
+    let a = from_test (int_max low first) (shared_size low size first count) v h in
+    let a0 = a.from in
+    let end : v <ℤ int_min (low +ℤ pos size) (first +ℤ pos count) = below_gap (int_max low first) (int_min (low +ℤ pos size) (first +ℤ pos count)) v a.from a.below in
+    record {
+      one = test_from low size v (omega (arith, ints, clamps, a0)) (omega (arith, ints, clamps, end));
+      other = test_from first count v (omega (arith, ints, clamps, a0)) (omega (arith, ints, clamps, end));
+    }
+
+pub holds-overlap : (a b : Area) (p : Pos) → holds (overlap a b) p ≡ (holds a p && holds b p)
+holds-overlap a b p = answers_alike (holds (overlap a b) p) (holds a p && holds b p)
+    (λ h.
+      let is = held (overlap a b) p h in
+      let x = shared_from a.least.x a.width b.least.x b.width p.x is.x in
+      let y = shared_from a.least.y a.height b.least.y b.height p.y is.y in
+      let z = shared_from a.least.z a.length b.least.z b.length p.z is.z in
+      and_from (holds a p) (holds b p) (and_from _ _ (and_from _ _ x.one y.one) z.one) (and_from _ _ (and_from _ _ x.other y.other) z.other))
+    (λ h. let parts = and_parts (holds a p) (holds b p) h in in_overlap a b p parts.0 parts.1)
+
+rem_from : (low : ℤ) (size : ℕ) (v : ℤ) → 0 < size → is_from low size (tile_coordinate low size v) ≡ true
+rem_from low size (pos a) some =
+    let below : a % size < size = mod_below a size some in
+    test_from low size (tile_coordinate low size (pos a)) (omega (arith, ints)) (omega (arith, ints, below))
+rem_from low size (negsuc a) some =
+    let below : size - 1 - a % size < size = omega (arith, some) in
+    test_from low size (tile_coordinate low size (negsuc a)) (omega (arith, ints)) (omega (arith, ints, below))
+
+factors : (a b : ℕ) → 0 < a * b → (0 < a) × (0 < b)
+factors zero b h = absurd (omega (arith, h))
+factors (suc a) zero h = absurd (omega (arith, h))
+factors (suc a) (suc b) h = (omega arith, omega arith)
+
+-- a tile's position lies in the bounds
+pub tile_held : (bounds : Area) (p : Pos) → 0 < volume bounds → holds bounds (tile_of bounds p) ≡ true
+tile_held bounds p some =
+    let flat = factors (bounds.width * bounds.height) bounds.length some in
+    let sides = factors bounds.width bounds.height flat.0 in
+    and_from _ _ (and_from _ _ (rem_from bounds.least.x bounds.width p.x sides.0) (rem_from bounds.least.y bounds.height p.y sides.1)) (rem_from bounds.least.z bounds.length p.z flat.1)
 
 -- ---- clipboards
 
