@@ -2,3 +2,12 @@ pub mod AreaLemmas
 pub mod WorldLemmas
 pub mod PatternLemmas
 pub mod Examples
+pub mod PropertyLemmas
+pub mod StateTextLemmas
+pub mod TurnLemmas
+pub mod PositionTurns
+pub mod StateTurns
+pub mod ClipboardLemmas
+mod StateExamples
+mod TurnExamples
+mod PatternExamples

@@ -5,5 +5,7 @@ pub mod World
 pub mod Grid
 pub mod Region
 pub mod Draw
+pub mod Transform
+pub mod Clipboard
 pub mod Pattern
 pub mod Same

@@ -45,6 +45,13 @@ impl BlockName {
         self.name.as_slice()
     }
 
+    /// Does nothing: the bytes are a name of the form.
+    pub fn well_formed(&self)
+        ensures { is_block_name self.now ≡ true }
+    {
+        let _bytes = self.name.as_slice();
+    }
+
     /// A second name of the same bytes.
     pub fn copy(&self, alloc: Global) -> Result<BlockName, Memory>
         ensures { IfOk result (λ copied. copied ≡ self.now) }

@@ -1,5 +1,6 @@
 ghost use Rattle.std.specs.Prelude.{◌≡◌, ◌&&◌, ◌||◌, ◌==◌, IfOk, bytes_eq, codes, List, true};
-ghost use Rattle.edit_terms.specs.StateText.{State, is_air};
+ghost use Rattle.edit_terms.specs.StateText.{State, IsState, is_air};
+ghost use Rattle.edit_terms.specs.Held.{state_of};
 
 use crate::block_name::BlockName;
 use crate::properties::Properties;
@@ -69,6 +70,16 @@ impl BlockState {
         }
     }
 
+    /// Does nothing: the name and the properties are of the form.
+    pub fn well_formed(&self)
+        ensures { IsState self.now }
+    {
+        match &self.held {
+            Held::Own(parts) => parts.well_formed(),
+            Held::Shared(parts) => parts.well_formed(),
+        }
+    }
+
     /// True exactly for air, cave air and void air, whatever their properties.
     pub fn is_air(&self) -> bool
         ensures { result ≡ is_air self.now }
@@ -94,6 +105,13 @@ impl BlockState {
 }
 
 impl Parts {
+    fn well_formed(&self)
+        ensures { IsState (state_of self.now) }
+    {
+        self.name.well_formed();
+        self.properties.well_formed();
+    }
+
     fn copy(&self, alloc: Global) -> Result<Parts, Memory>
         ensures { IfOk result (λ copied. (copied.name ≡ self.now.name) × (copied.properties ≡ self.now.properties)) }
     {

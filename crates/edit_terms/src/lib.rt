@@ -8,33 +8,52 @@
 mod axis;
 mod block_name;
 mod block_state;
+mod clip;
 mod content;
+mod direction;
 mod entity;
 mod grid;
 mod items;
 mod outcome;
 mod pattern;
+mod pattern_laws;
 mod pos;
 mod properties;
 mod region;
 mod script;
+mod state_laws;
 mod step;
+mod transform;
+mod transform_laws;
 mod world_box;
 
 pub use block_name::BlockName;
 pub use block_state::BlockState;
+pub use clip::{Clip, Source};
 pub use content::Content;
+pub use direction::Direction;
 pub use entity::{Entities, Entity};
 pub use grid::Grid;
 pub use items::{Items, Name};
 pub use memory::Memory;
 pub use outcome::{Outcome, Reply};
 pub use pattern::{Entry, Pattern, Value};
+pub use pattern_laws::{
+    boxes_of_a_clipboard, clipboard_cells_lie_in_its_bounds, some_entry_is_chosen, the_only_entry_is_chosen,
+};
 pub use pos::Pos;
 pub use properties::Properties;
 pub use region::{Kind, Region, Selection};
 pub use script::{Case, Command, Line, Script};
+pub use state_laws::{
+    one_state_a_text, replacing_properties, sorting_properties, states_and_faults, written_form,
+};
 pub use step::{Refusal, Spec, Step, Work};
+pub use transform::Transform;
+pub use transform_laws::{
+    flip_after_a_transform, flip_along_z, four_quarter_turns, inverse_transform,
+    turned_states_are_states, turns_after_a_transform, two_flips,
+};
 pub use world_box::WorldBox;
 
 #[cfg(test)]

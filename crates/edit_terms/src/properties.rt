@@ -46,6 +46,13 @@ impl Properties {
         &self.pairs
     }
 
+    /// Does nothing: the pairs are properties of the form.
+    pub fn well_formed(&self)
+        ensures { is_properties self.now ≡ true }
+    {
+        let _pairs = self.pairs.as_slice();
+    }
+
     /// The same properties once more.
     pub fn copy(&self, alloc: Global) -> Result<Properties, Memory>
         ensures { IfOk result (λ copied. copied ≡ self.now) }
