@@ -1,3 +1,5 @@
 pub mod AreaLemmas
 pub mod WorldLemmas
 pub mod PatternLemmas
+pub mod RegionLemmas
+mod RegionExamples

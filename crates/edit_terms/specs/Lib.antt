@@ -3,6 +3,7 @@ pub mod StateText
 pub mod Held
 pub mod World
 pub mod Grid
+pub mod Neighbour
 pub mod Region
 pub mod Draw
 pub mod Pattern
