@@ -3,3 +3,5 @@ pub mod WorldLemmas
 pub mod PatternLemmas
 pub mod RegionLemmas
 mod RegionExamples
+pub mod DrawLemmas
+mod DrawExamples

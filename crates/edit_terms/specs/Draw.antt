@@ -16,7 +16,11 @@ draw_place p use_number =
 abbrev pub pattern_use : ℕ
 pattern_use = 8
 
--- The word of 32 bits for a seed, a ticket, a use and a position: the key is the seed's eight bytes, low first,
--- and 24 zeros; the stream is the ticket. ChaCha8 has four double rounds.
+-- The word of 32 bits at a place of a seed's stream: the key is the seed's eight bytes, low first, and 24 zeros.
+-- ChaCha8 has four double rounds.
+abbrev pub random_word : ℕ → ℕ → ℕ → ℕ
+random_word seed stream place = word_at 4 (key_of (to_le_bytes w64 seed ++ replicate 24 0)) stream place
+
+-- the word for a seed, a ticket, a use and a position: the stream is the ticket
 abbrev pub draw_word : ℕ → ℕ → ℕ → Pos → ℕ
-draw_word seed ticket use_number p = word_at 4 (key_of (to_le_bytes w64 seed ++ replicate 24 0)) ticket (draw_place p use_number)
+draw_word seed ticket use_number p = random_word seed ticket (draw_place p use_number)
