@@ -1,6 +1,7 @@
 pub mod Area
 pub mod StateText
 pub mod Held
+pub mod HeldItems
 pub mod World
 pub mod Grid
 pub mod Neighbour

@@ -24,6 +24,7 @@ mod region_laws;
 mod script;
 mod step;
 mod transform;
+mod try_copy;
 mod world_box;
 
 pub use block_name::BlockName;
@@ -45,4 +46,5 @@ pub use region_laws::{region_in_frame, region_in_whole, root_is_greatest};
 pub use script::{Case, Command, Line, Script};
 pub use step::{Refusal, Spec, Step, Work};
 pub use transform::Transform;
+pub use try_copy::TryCopy;
 pub use world_box::WorldBox;
