@@ -12,6 +12,13 @@ abbrev pub draw_place : Pos → ℕ → ℕ
 draw_place p use_number =
     ((offset (negsuc 33554431) p.x * 2 ^ 26 + offset (negsuc 33554431) p.z) * 2 ^ 12 + offset (negsuc 2047) p.y) * 16 + use_number
 
+-- the uses whose words decide the noise leaves of a command's mask and those of the global mask: from these on
+abbrev pub mask_use : ℕ
+mask_use = 0
+
+abbrev pub global_mask_use : ℕ
+global_mask_use = 4
+
 -- the use whose word chooses a pattern's entry
 abbrev pub pattern_use : ℕ
 pattern_use = 8

@@ -7,5 +7,6 @@ pub mod Grid
 pub mod Neighbour
 pub mod Region
 pub mod Draw
+pub mod Mask
 pub mod Pattern
 pub mod Same
