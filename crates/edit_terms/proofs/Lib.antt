@@ -5,3 +5,5 @@ pub mod RegionLemmas
 mod RegionExamples
 pub mod DrawLemmas
 mod DrawExamples
+pub mod MaskLemmas
+mod MaskExamples
