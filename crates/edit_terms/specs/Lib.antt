@@ -5,6 +5,7 @@ pub mod HeldItems
 pub mod World
 pub mod Grid
 pub mod Neighbour
+pub mod CellList
 pub mod Region
 pub mod Draw
 pub mod Mask

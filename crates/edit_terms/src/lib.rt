@@ -8,10 +8,12 @@
 mod axis;
 mod block_name;
 mod block_state;
+mod cell_list;
 mod clip;
 mod content;
 mod direction;
 mod entity;
+mod event;
 mod grid;
 mod items;
 mod mask;
@@ -32,10 +34,12 @@ mod world_box;
 
 pub use block_name::BlockName;
 pub use block_state::BlockState;
+pub use cell_list::CellList;
 pub use clip::{Clip, Source};
 pub use content::Content;
 pub use direction::Direction;
 pub use entity::{Entities, Entity};
+pub use event::Event;
 pub use grid::Grid;
 pub use items::{Items, Name};
 pub use mask::{Leaf, Mask, Sign, Term};
