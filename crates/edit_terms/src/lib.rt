@@ -57,3 +57,6 @@ pub use step::{Refusal, Spec, Step, Work};
 pub use transform::Transform;
 pub use try_copy::TryCopy;
 pub use world_box::WorldBox;
+
+#[cfg(test)]
+mod sharing_tests;
