@@ -2,7 +2,6 @@
 use Rattle.std.proofs.Common.{◌≡◌, pos, negsuc, refl}
 use Rattle.rand_chacha.specs.Block.{block_word, double_rounds, diagonal_round, column_round, quarter_round}
 use Rattle.rand_core.specs.Steps.{u32_at}
-use Rattle.edit_terms.specs.declared.pos.Pos.{Pos}
 use Rattle.edit_terms.specs.Draw.{draw_place, draw_word, pattern_use}
 
 place_of_the_last_position : draw_place (record { x = pos 33554431; y = pos 2047; z = pos 33554431 }) pattern_use ≡ 295147905179352825848

@@ -1,11 +1,11 @@
 -- Each position of a world's box has a place that the generator has, for each use.
-use Rattle.std.proofs.Common.{◌≡◌, ℕ, ◌+◌, ◌*◌, ◌^◌, ◌<◌, ◌≤◌, true, ◌&&◌, ℤ, pos, negsuc, ◌+ℤ◌, ◌≤ℤ◌, arith}
+use Rattle.std.proofs.Common.{◌≡◌, ℕ, ◌+◌, ◌*◌, ◌^◌, ◌<◌, true, ◌&&◌, ℤ, pos, negsuc, ◌+ℤ◌, arith}
 use Rattle.std.specs.Prelude.{int_le, int_lt}
 use Rattle.std.proofs.lemmas.Int.{ints}
 use Rattle.edit_terms.specs.declared.pos.Pos.{Pos}
 use Rattle.edit_terms.specs.Area.{Area, is_from, is_world_box, holds, offset}
 use Rattle.edit_terms.specs.Draw.{draw_place}
-use Rattle.edit_terms.proofs.AreaLemmas.{and_both, on_map, IsOnMap, IsInRange}
+use Rattle.edit_terms.proofs.AreaLemmas.{and_both, on_map, IsInRange}
 
 place_below : (x z y use_number : ℕ) → x < 2 ^ 26 → z < 2 ^ 26 → y < 2 ^ 12 → use_number < 16 → ((x * 2 ^ 26 + z) * 2 ^ 12 + y) * 16 + use_number < 2 ^ 68
 place_below x z y use_number hx hz hy hu = omega (arith, hx, hz, hy, hu)

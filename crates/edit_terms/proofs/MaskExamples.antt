@@ -1,10 +1,10 @@
 -- What masks say of a small world, and how their noise leaves are numbered.
-use Rattle.std.proofs.Common.{◌≡◌, ℕ, Bool, true, false, List, [], ◌∷◌, Option, None, Some, ℤ, pos, negsuc, refl}
+use Rattle.std.proofs.Common.{◌≡◌, ℕ, Bool, true, false, List, [], ◌∷◌, None, ℤ, pos, negsuc, refl}
 use Rattle.std.specs.Prelude.{codes, map}
 use Rattle.edit_terms.specs.declared.pos.Pos.{Pos}
 use Rattle.edit_terms.specs.declared.mask.Sign.TheVariants.{Not, Below, Above}
 use Rattle.edit_terms.specs.declared.mask.Leaf.{Leaf}
-use Rattle.edit_terms.specs.declared.mask.Leaf.TheVariants.{Noise, Existing, InSelection, Has, OneOf}
+use Rattle.edit_terms.specs.declared.mask.Leaf.TheVariants.{Noise, Existing, Has, OneOf}
 use Rattle.edit_terms.specs.declared.mask.Sign.{Sign}
 use Rattle.edit_terms.specs.declared.mask.Term.{Term}
 use Rattle.edit_terms.specs.declared.mask.Mask.{Mask}

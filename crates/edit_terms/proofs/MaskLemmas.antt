@@ -1,6 +1,6 @@
 -- A term negated twice holds where the term does; noise of chance 0 holds nowhere, and of chance 100 in the box.
-use Rattle.std.proofs.Common.{◌≡◌, ℕ, ◌*◌, ◌^◌, ◌<◌, ◌≤◌, Bool, true, false, ◌&&◌, refl, ap, ◌∙◌, arith, ltb}
-use Rattle.std.proofs.lemmas.Bool.{lt-ltb, le-ltb}
+use Rattle.std.proofs.Common.{◌≡◌, ℕ, ◌*◌, ◌^◌, ◌<◌, Bool, true, false, ◌&&◌, refl, ap, ◌∙◌, arith}
+use Rattle.std.proofs.lemmas.Bool.{lt-ltb}
 use Rattle.edit_terms.specs.declared.mask.Leaf.TheVariants.{Noise}
 use Rattle.edit_terms.specs.Area.{holds}
 use Rattle.edit_terms.specs.Draw.{draw_word}

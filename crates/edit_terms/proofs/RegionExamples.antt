@@ -1,8 +1,8 @@
 -- What the definitions of regions say of shapes that can be counted by hand.
-use Rattle.std.proofs.Common.{◌≡◌, ℕ, Bool, true, false, ℤ, pos, negsuc, refl}
+use Rattle.std.proofs.Common.{◌≡◌, ℕ, Bool, true, false, pos, negsuc, refl}
 use Rattle.std.specs.List.{count_by, range_with_len}
 use Rattle.edit_terms.specs.declared.pos.Pos.{Pos}
-use Rattle.edit_terms.specs.declared.region.Kind.TheVariants.{Cuboid, Sphere, Cylinder}
+use Rattle.edit_terms.specs.declared.region.Kind.TheVariants.{Cuboid, Sphere}
 use Rattle.edit_terms.specs.declared.region.Selection.{Selection}
 use Rattle.edit_terms.specs.declared.region.Region.{Region}
 use Rattle.edit_terms.specs.declared.region.Region.TheVariants.{Selected, Walls, Faces, Ball, Tube}

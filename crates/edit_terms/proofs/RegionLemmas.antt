@@ -2,14 +2,13 @@
 --
 -- A squared difference of coordinates is the square of a natural number, so a test of squares bounds that number,
 -- and a bound on it puts the coordinate between the ends of the frame.
-use Rattle.std.proofs.Common.{◌≡◌, ℕ, zero, suc, ◌+◌, ◌-◌, ◌*◌, ◌^◌, ◌<◌, ◌≤◌, ◌⊎◌, Bool, true, false, inl, inr, cond, ◌&&◌, ◌||◌, List, ℤ, pos, negsuc, ◌+ℤ◌, ◌-ℤ◌, ◌*ℤ◌, ◌≤ℤ◌, refl, sym, ap, ◌∙◌, subst, arith, leb}
-use Rattle.std.specs.Prelude.{nat_le, nat_abs, int_le, not, FitsSigned}
+use Rattle.std.proofs.Common.{◌≡◌, ℕ, zero, suc, ◌+◌, ◌*◌, ◌^◌, ◌<◌, ◌≤◌, Bool, true, false, inl, inr, cond, ◌&&◌, List, ℤ, pos, negsuc, ◌-ℤ◌, ◌*ℤ◌, refl, subst, arith, leb}
+use Rattle.std.specs.Prelude.{nat_abs, int_le, not, FitsSigned}
 use Rattle.std.specs.Int.{w32, int_min}
 use Rattle.std.specs.List.{list_all}
 use Rattle.std.specs.Cmp.Derive.{both_true}
 use Rattle.std.proofs.lemmas.Bool.{leb-true, leb-false, cases_lt}
-use Rattle.std.proofs.lemmas.Int.{ints, clamps}
-use Rattle.std.proofs.lemmas.Nat.{mul-lt}
+use Rattle.std.proofs.lemmas.Int.{ints}
 use Rattle.std.proofs.Math.Nat.{mul-le-mul, two-pow-succ}
 use Rattle.edit_terms.specs.declared.pos.Pos.{Pos}
 use Rattle.edit_terms.specs.declared.direction.Direction.{Direction}
@@ -19,7 +18,7 @@ use Rattle.edit_terms.specs.declared.region.Selection.{Selection}
 use Rattle.edit_terms.specs.declared.region.Region.{Region}
 use Rattle.edit_terms.specs.declared.region.Region.TheVariants.{Selected, Walls, Faces, Ball, Tube}
 use Rattle.edit_terms.specs.Area.{is_from, holds}
-use Rattle.edit_terms.specs.Region.{is_between, count_between, squared_gap, flat_distance, distance, is_in_shape, is_in_reach, is_in_ball, is_in_tube, is_at_edge, is_selected, is_in_whole, is_inside, with_digit, root_from, root, IsRoot, disc_frame, ball_frame, shape_frame, frame_of, IsPartOfWhole, IsPosition, IsSelection, IsRegion, IsFramed}
+use Rattle.edit_terms.specs.Region.{is_between, count_between, flat_distance, distance, is_in_shape, is_in_reach, is_in_ball, is_in_tube, is_at_edge, is_selected, is_in_whole, with_digit, root_from, root, IsRoot, disc_frame, ball_frame, shape_frame, frame_of, IsPartOfWhole, IsPosition, IsSelection, IsRegion, IsFramed}
 use Rattle.edit_terms.specs.Neighbour.{neighbour, horizontal, directions}
 use Rattle.edit_terms.proofs.AreaLemmas.{and_both}
 

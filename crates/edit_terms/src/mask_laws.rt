@@ -12,8 +12,7 @@ ghost use Rattle.edit_terms.specs.Mask.{Scene, negated, term_holds, leaf_holds};
 pub fn double_negation()
     ensures { (t : Term) (number : ℕ) (s : Scene) (p : Pos) →
         term_holds (negated (negated t)) number s p ≡ term_holds t number s p }
-{
-}
+{}
 
 /// Noise of 0 in 100 holds nowhere, and of 100 in 100 exactly in the box.
 #[tactic(auto, using(crate::proofs::MaskLemmas::noise_never, crate::proofs::MaskLemmas::noise_always))]
@@ -21,5 +20,4 @@ pub fn noise_of_none_and_all()
     ensures none { (number : ℕ) (s : Scene) (p : Pos) → leaf_holds (Noise 0) number s p ≡ false }
     ensures all { (number : ℕ) (s : Scene) (p : Pos) →
         leaf_holds (Noise 100) number s p ≡ holds s.world.area p }
-{
-}
+{}

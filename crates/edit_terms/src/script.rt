@@ -11,23 +11,43 @@ use crate::region::Kind;
 #[derive(Debug, Drop)]
 pub enum Command {
     /// `//pos1`: sets the selection's first position.
-    Pos1 { at: Pos },
+    Pos1 {
+        at: Pos,
+    },
     /// `//pos2`: sets the selection's second position.
-    Pos2 { at: Pos },
+    Pos2 {
+        at: Pos,
+    },
     /// `at`: sets the placement position.
-    Place { at: Pos },
+    Place {
+        at: Pos,
+    },
     /// `//sel`: sets the selection's shape and keeps its positions.
-    Sel { kind: Kind },
+    Sel {
+        kind: Kind,
+    },
     /// `block`: puts a state at one position.
-    Block { at: Pos, state: BlockState },
+    Block {
+        at: Pos,
+        state: BlockState,
+    },
     /// `//set`: fills the selection.
-    Set { pattern: Pattern },
+    Set {
+        pattern: Pattern,
+    },
     /// `//walls`: fills the selection's walls.
-    Walls { pattern: Pattern },
+    Walls {
+        pattern: Pattern,
+    },
     /// `//faces`: fills the selection's faces.
-    Faces { pattern: Pattern },
+    Faces {
+        pattern: Pattern,
+    },
     /// `//replace`: fills the selection where the mask holds; without a mask's word it is `#existing`.
-    Replace { mask: Mask, pattern: Pattern },
+    Replace {
+        mask: Mask,
+        pattern: Pattern,
+    },
     /// `//sphere` and, hollow, `//hsphere`: fills a ball round the placement position.
     Sphere {
         pattern: Pattern,
@@ -42,25 +62,43 @@ pub enum Command {
         hollow: bool,
     },
     /// `//stack`: repeats the selection so many times in a direction.
-    Stack { count: u32, to: Direction },
+    Stack {
+        count: u32,
+        to: Direction,
+    },
     /// `//move`: moves the selection so many blocks in a direction.
-    Move { count: u32, to: Direction },
+    Move {
+        count: u32,
+        to: Direction,
+    },
     /// `//copy`: copies the selection to the clipboard.
     Copy,
     /// `//cut`: copies the selection to the clipboard and leaves air.
     Cut,
     /// `//paste`: puts the clipboard at the placement position, with `-a` without its air.
-    Paste { skip_air: bool },
+    Paste {
+        skip_air: bool,
+    },
     /// `//rotate`: turns the clipboard by so many quarters about y, 1 to 3.
-    Rotate { quarters: u8 },
+    Rotate {
+        quarters: u8,
+    },
     /// `//flip`: flips the clipboard along a direction.
-    Flip { to: Direction },
+    Flip {
+        to: Direction,
+    },
     /// `//gmask`: sets the mask of all edits, or drops it.
-    Gmask { mask: Option<Mask> },
+    Gmask {
+        mask: Option<Mask>,
+    },
     /// `//undo`: takes back so many edits.
-    Undo { count: u32 },
+    Undo {
+        count: u32,
+    },
     /// `//redo`: does so many edits again that were taken back.
-    Redo { count: u32 },
+    Redo {
+        count: u32,
+    },
 }
 
 /// A command and the line of the script that it stands in, from 1.

@@ -1,6 +1,8 @@
 //! Copies of masks and patterns say what their originals say, once they own and once they share.
 
-use crate::{BlockName, BlockState, Entry, Items, Leaf, Mask, Name, Pattern, Properties, Sign, Term, Value};
+use crate::{
+    BlockName, BlockState, Entry, Items, Leaf, Mask, Name, Pattern, Properties, Sign, Term, Value,
+};
 use std::alloc::Global;
 use std::test::Fail;
 
@@ -81,7 +83,12 @@ fn copied_patterns(rt: HostRuntime) -> Result<(), Fail> {
     let alloc = rt.alloc();
     let stairs = stairs(alloc)?;
     let own = Pattern {
-        entries: Items::from_vec(vec![in alloc; Entry { weight: 3, value: Value::Fixed(stairs.copy(alloc)?) }]?),
+        entries: Items::from_vec(vec![in alloc;
+            Entry {
+                weight: 3,
+                value: Value::Fixed(stairs.copy(alloc)?)
+            },
+        ]?),
     };
     let copied = own.copy(alloc)?;
     let copied_again = copied.copy(alloc)?;

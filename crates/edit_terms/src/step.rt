@@ -44,17 +44,31 @@ pub enum Work {
         to: Direction,
     },
     /// Copies a selection to the clipboard; the world stays.
-    Copy { from: Selection },
+    Copy {
+        from: Selection,
+    },
     /// Copies a selection to the clipboard and leaves air.
-    Cut { from: Selection },
+    Cut {
+        from: Selection,
+    },
     /// Puts the clipboard at a place, perhaps without its air.
-    Paste { place: Pos, skip_air: bool },
+    Paste {
+        place: Pos,
+        skip_air: bool,
+    },
     /// Puts a state at one position.
-    Put { at: Pos, state: BlockState },
+    Put {
+        at: Pos,
+        state: BlockState,
+    },
     /// Takes back the edits of these steps of the player's script, in this order.
-    Undo { steps: Items<u32> },
+    Undo {
+        steps: Items<u32>,
+    },
     /// Does the edits of these steps again, in this order.
-    Redo { steps: Items<u32> },
+    Redo {
+        steps: Items<u32>,
+    },
 }
 
 /// A resolved command: its work, and the global mask, the selection and the clipboard as they stand
