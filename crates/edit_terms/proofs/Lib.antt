@@ -11,3 +11,9 @@ pub mod ClipboardLemmas
 mod StateExamples
 mod TurnExamples
 mod PatternExamples
+pub mod RegionLemmas
+mod RegionExamples
+pub mod DrawLemmas
+mod DrawExamples
+pub mod MaskLemmas
+mod MaskExamples

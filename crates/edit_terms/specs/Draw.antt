@@ -12,11 +12,22 @@ abbrev pub draw_place : Pos → ℕ → ℕ
 draw_place p use_number =
     ((offset (negsuc 33554431) p.x * 2 ^ 26 + offset (negsuc 33554431) p.z) * 2 ^ 12 + offset (negsuc 2047) p.y) * 16 + use_number
 
+-- the uses whose words decide the noise leaves of a command's mask and those of the global mask: from these on
+abbrev pub mask_use : ℕ
+mask_use = 0
+
+abbrev pub global_mask_use : ℕ
+global_mask_use = 4
+
 -- the use whose word chooses a pattern's entry
 abbrev pub pattern_use : ℕ
 pattern_use = 8
 
--- The word of 32 bits for a seed, a ticket, a use and a position: the key is the seed's eight bytes, low first,
--- and 24 zeros; the stream is the ticket. ChaCha8 has four double rounds.
+-- The word of 32 bits at a place of a seed's stream: the key is the seed's eight bytes, low first, and 24 zeros.
+-- ChaCha8 has four double rounds.
+abbrev pub random_word : ℕ → ℕ → ℕ → ℕ
+random_word seed stream place = word_at 4 (key_of (to_le_bytes w64 seed ++ replicate 24 0)) stream place
+
+-- the word for a seed, a ticket, a use and a position: the stream is the ticket
 abbrev pub draw_word : ℕ → ℕ → ℕ → Pos → ℕ
-draw_word seed ticket use_number p = word_at 4 (key_of (to_le_bytes w64 seed ++ replicate 24 0)) ticket (draw_place p use_number)
+draw_word seed ticket use_number p = random_word seed ticket (draw_place p use_number)

@@ -1,11 +1,15 @@
 pub mod Area
 pub mod StateText
 pub mod Held
+pub mod HeldItems
 pub mod World
 pub mod Grid
+pub mod Neighbour
+pub mod CellList
 pub mod Region
 pub mod Draw
 pub mod Transform
 pub mod Clipboard
+pub mod Mask
 pub mod Pattern
 pub mod Same

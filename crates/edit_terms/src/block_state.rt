@@ -4,6 +4,7 @@ ghost use Rattle.edit_terms.specs.Held.{state_of};
 
 use crate::block_name::BlockName;
 use crate::properties::Properties;
+use crate::try_copy::TryCopy;
 use memory::Memory;
 use std::alloc::Global;
 use std::hash::{Hash, Hasher};
@@ -155,5 +156,11 @@ impl Hash for BlockState {
     fn hash<H: Hasher>(&self, state: &mut H) {
         self.name().hash(state);
         self.properties().as_slice().hash(state);
+    }
+}
+
+impl TryCopy for BlockState {
+    fn try_copy(&self, alloc: Global) -> Result<BlockState, Memory> {
+        self.copy(alloc)
     }
 }

@@ -8,33 +8,45 @@
 mod axis;
 mod block_name;
 mod block_state;
+mod cell_list;
 mod clip;
 mod content;
 mod direction;
 mod entity;
+mod event;
 mod grid;
 mod items;
+mod mask;
+mod mask_laws;
 mod outcome;
 mod pattern;
 mod pattern_laws;
+mod pattern_copy;
 mod pos;
 mod properties;
+mod random;
 mod region;
+mod region_laws;
 mod script;
 mod state_laws;
 mod step;
 mod transform;
 mod transform_laws;
+mod try_copy;
 mod world_box;
 
 pub use block_name::BlockName;
 pub use block_state::BlockState;
+pub use cell_list::CellList;
 pub use clip::{Clip, Source};
 pub use content::Content;
 pub use direction::Direction;
 pub use entity::{Entities, Entity};
+pub use event::Event;
 pub use grid::Grid;
 pub use items::{Items, Name};
+pub use mask::{Leaf, Mask, Sign, Term};
+pub use mask_laws::{double_negation, noise_of_none_and_all};
 pub use memory::Memory;
 pub use outcome::{Outcome, Reply};
 pub use pattern::{Entry, Pattern, Value};
@@ -43,7 +55,9 @@ pub use pattern_laws::{
 };
 pub use pos::Pos;
 pub use properties::Properties;
+pub use random::random_word;
 pub use region::{Kind, Region, Selection};
+pub use region_laws::{region_in_frame, region_in_whole, root_is_greatest};
 pub use script::{Case, Command, Line, Script};
 pub use state_laws::{
     one_state_a_text, replacing_properties, sorting_properties, states_and_faults, written_form,
@@ -54,7 +68,10 @@ pub use transform_laws::{
     flip_after_a_transform, flip_along_z, four_quarter_turns, inverse_transform,
     turned_states_are_states, turns_after_a_transform, two_flips,
 };
+pub use try_copy::TryCopy;
 pub use world_box::WorldBox;
 
+#[cfg(test)]
+mod sharing_tests;
 #[cfg(test)]
 mod tests;

@@ -1,0 +1,103 @@
+//! Copies of masks and patterns say what their originals say, once they own and once they share.
+
+use crate::{
+    BlockName, BlockState, Entry, Items, Leaf, Mask, Name, Pattern, Properties, Sign, Term, Value,
+};
+use std::alloc::Global;
+use std::test::Fail;
+
+fn word(alloc: Global, bytes: &[u8]) -> Result<Name, Fail> {
+    Ok(Name::from_vec(Vec::from_slice(alloc, bytes)?))
+}
+
+fn upper_half(alloc: Global) -> Result<Properties, Fail> {
+    let pairs = vec![in alloc; (word(alloc, b"half")?, word(alloc, b"top")?)]?;
+    Ok(Properties::from_pairs(pairs).ok_or("properties")?)
+}
+
+fn stairs(alloc: Global) -> Result<BlockState, Fail> {
+    let name = BlockName::from_name(word(alloc, b"minecraft:oak_stairs")?).ok_or("a block name")?;
+    Ok(BlockState::new(name, upper_half(alloc)?))
+}
+
+fn term(alloc: Global, signs: &[Sign], leaf: Leaf) -> Result<Term, Fail> {
+    let signs = Items::from_vec(Vec::from_slice(alloc, signs)?);
+    Ok(Term { signs, leaf })
+}
+
+/// `!>oak_stairs[half=top] ^[half=top] %7 #existing #selection`
+fn mask(alloc: Global) -> Result<Mask, Fail> {
+    let states = Items::from_vec(vec![in alloc; stairs(alloc)?]?);
+    let terms = vec![in alloc;
+        term(alloc, &[Sign::Not, Sign::Below], Leaf::OneOf(states))?,
+        term(alloc, &[], Leaf::Has(upper_half(alloc)?))?,
+        term(alloc, &[], Leaf::Noise(7))?,
+        term(alloc, &[], Leaf::Existing)?,
+        term(alloc, &[], Leaf::InSelection)?,
+    ]?;
+    Ok(Mask {
+        terms: Items::from_vec(terms),
+    })
+}
+
+/// Whether a mask is the one above.
+fn is_that_mask(mask: &Mask, stairs: &BlockState) -> bool {
+    let [first, second, third, fourth, fifth] = mask.terms.as_slice() else {
+        return false;
+    };
+    let states = match &first.leaf {
+        Leaf::OneOf(states) => states.as_slice(),
+        _ => return false,
+    };
+    let properties = match &second.leaf {
+        Leaf::Has(properties) => properties.as_slice(),
+        _ => return false,
+    };
+    first.signs.as_slice() == [Sign::Not, Sign::Below].as_slice()
+        && states.len() == 1
+        && states[0] == *stairs
+        && properties == stairs.properties().as_slice()
+        && matches!(&third.leaf, Leaf::Noise(7))
+        && matches!(&fourth.leaf, Leaf::Existing)
+        && matches!(&fifth.leaf, Leaf::InSelection)
+}
+
+#[test]
+fn copied_masks(rt: HostRuntime) -> Result<(), Fail> {
+    let alloc = rt.alloc();
+    let stairs = stairs(alloc)?;
+    let own = mask(alloc)?;
+    let copied = own.copy(alloc)?;
+    let copied_again = copied.copy(alloc)?;
+    let shared = Mask {
+        terms: mask(alloc)?.terms.share(alloc)?.share(alloc)?,
+    };
+    for mask in [&own, &copied, &copied_again, &shared] {
+        assert!(rt; is_that_mask(mask, &stairs));
+    }
+    Ok(())
+}
+
+#[test]
+fn copied_patterns(rt: HostRuntime) -> Result<(), Fail> {
+    let alloc = rt.alloc();
+    let stairs = stairs(alloc)?;
+    let own = Pattern {
+        entries: Items::from_vec(vec![in alloc;
+            Entry {
+                weight: 3,
+                value: Value::Fixed(stairs.copy(alloc)?)
+            },
+        ]?),
+    };
+    let copied = own.copy(alloc)?;
+    let copied_again = copied.copy(alloc)?;
+    for pattern in [&own, &copied, &copied_again] {
+        let [entry] = pattern.entries.as_slice() else {
+            return Err("one entry".into());
+        };
+        assert_eq!(rt; entry.weight, 3);
+        assert!(rt; matches!(&entry.value, Value::Fixed(state) if *state == stairs));
+    }
+    Ok(())
+}
