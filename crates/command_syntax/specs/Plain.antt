@@ -20,6 +20,7 @@ abbrev pub IsPlainCommand : Command → Type 0
 IsPlainCommand (Pos1 at) = is_on_map at ≡ true
 IsPlainCommand (Pos2 at) = is_on_map at ≡ true
 IsPlainCommand (Set pattern) = IsPlainPattern pattern
+IsPlainCommand _ = ⊥
 
 -- A plain script: a player's name, and at most 10,000 plain commands.
 pub record IsPlainScript (script : Script) : Type 0 where

@@ -21,7 +21,6 @@ mod mask_laws;
 mod outcome;
 mod pattern;
 mod pattern_laws;
-mod pattern_copy;
 mod pos;
 mod properties;
 mod random;

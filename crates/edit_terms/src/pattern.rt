@@ -1,7 +1,12 @@
+ghost use Rattle.std.specs.Prelude.{◌≡◌, IfOk};
+
 use crate::block_name::BlockName;
 use crate::block_state::BlockState;
 use crate::items::Items;
 use crate::properties::Properties;
+use crate::try_copy::TryCopy;
+use memory::Memory;
+use std::alloc::Global;
 
 /// What an entry of a pattern puts in a position's place.
 #[derive(Debug, Drop)]
@@ -29,4 +34,36 @@ pub struct Entry {
 #[derive(Debug, Drop)]
 pub struct Pattern {
     pub entries: Items<Entry>,
+}
+
+impl Pattern {
+    /// The same pattern once more; its entries are shared by further copies.
+    pub fn copy(&self, alloc: Global) -> Result<Pattern, Memory>
+        ensures { IfOk result (λ copied. copied ≡ self.now) }
+    {
+        Ok(Pattern {
+            entries: self.entries.copy(alloc)?,
+        })
+    }
+}
+
+impl TryCopy for Value {
+    fn try_copy(&self, alloc: Global) -> Result<Value, Memory> {
+        Ok(match self {
+            Value::Fixed(state) => Value::Fixed(state.copy(alloc)?),
+            Value::Rename(name) => Value::Rename(name.copy(alloc)?),
+            Value::Put(properties) => Value::Put(properties.copy(alloc)?),
+            Value::RenamePut(state) => Value::RenamePut(state.copy(alloc)?),
+            Value::Clipboard => Value::Clipboard,
+        })
+    }
+}
+
+impl TryCopy for Entry {
+    fn try_copy(&self, alloc: Global) -> Result<Entry, Memory> {
+        Ok(Entry {
+            weight: self.weight,
+            value: self.value.try_copy(alloc)?,
+        })
+    }
 }

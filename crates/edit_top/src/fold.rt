@@ -68,6 +68,7 @@ fn answer(
             Ok(Reply::Accepted)
         }
         Command::Set { pattern } => set(alloc, session, canvas, pattern),
+        _ => unreachable!(),
     }
 }
 
@@ -94,6 +95,8 @@ fn fixed_state(pattern: &Pattern) -> &BlockState
     requires { IsPlainPattern pattern.now }
     ensures { pattern.now.entries ≡ record { weight = 1; value = Fixed result.now } ∷ [] }
 {
-    let Value::Fixed(state) = &pattern.entries.as_slice()[0].value;
+    let Value::Fixed(state) = &pattern.entries.as_slice()[0].value else {
+        unreachable!()
+    };
     state
 }

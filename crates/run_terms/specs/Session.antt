@@ -34,21 +34,25 @@ selection_from kind _ _ = None
 abbrev pub selection_of : Session → Option Selection
 selection_of s = selection_from s.kind s.first s.second
 
--- an edit of this work is a job
-abbrev pub job_of : Work → Step
-job_of work = Job (record { work = work })
+-- An edit of this work is a job, which carries the selection. No command that is read yet sets a global mask or a
+-- clipboard.
+abbrev pub job_of : Session → Work → Step
+job_of s work = Job (record { work = work; global = None; selection = selection_of s; clip = None })
 
--- What a command is in a session: an edit without a selection is refused.
+-- What a command is in a session: an edit without a selection is refused. Other commands than these three aren't read
+-- yet; here they settle.
 abbrev pub resolved_command : Session → Command → Step
 resolved_command s (Pos1 at) = Settled
 resolved_command s (Pos2 at) = Settled
-resolved_command s (Set pattern) = option_map_or (λ selection. job_of (Fill (Selected selection) pattern)) (selection_of s) (Refused NoSelection)
+resolved_command s (Set pattern) = option_map_or (λ selection. job_of s (Fill (Selected selection) None pattern)) (selection_of s) (Refused NoSelection)
+resolved_command s _ = Settled
 
 -- the session after one more command
 abbrev pub after_command : Session → Command → Session
 after_command s (Pos1 at) = record s { first = Some at }
 after_command s (Pos2 at) = record s { second = Some at }
 after_command s (Set pattern) = s
+after_command s _ = s
 
 -- the session after these lines
 abbrev pub session_after : List Line → Session
