@@ -1,14 +1,14 @@
 -- A grid's world read at a position is the grid read at the position's place.
-use Rattle.std.proofs.Common.{◌≡◌, ℕ, ◌+◌, ◌<◌, Bool, true, false, cond, List, [], ◌∷◌, map, get_or, Option, Some, None, refl, sym, ap, ◌∙◌, arith}
+use Rattle.std.proofs.Common.{◌≡◌, ℕ, ◌<◌, Bool, true, false, cond, List, [], ◌∷◌, map, get_or, Some, None, refl, ap, ◌∙◌, arith}
 use Rattle.std.specs.Prelude.{option_map}
-use Rattle.std.specs.List.{find, range_with_len}
+use Rattle.std.specs.List.{find}
 use Rattle.std.specs.declared.sync.Arc.{Arc}
 use Rattle.std.specs.declared.alloc.Global.{Global}
 use Rattle.std.specs.Arc.{arc_value}
 use Rattle.std.proofs.lemmas.List.FromFn.{get_or-map-range_with_len}
 use Rattle.edit_terms.specs.declared.pos.Pos.{Pos}
-use Rattle.edit_terms.specs.Area.{Area, volume, holds, index_of, position_of, IsBlockAt}
-use Rattle.edit_terms.specs.World.{EntityTags, BlockContent, World, content_at, state_at, air_content}
+use Rattle.edit_terms.specs.Area.{volume, holds, index_of, IsBlockAt}
+use Rattle.edit_terms.specs.World.{EntityTags, BlockContent, content_at, state_at, air_content}
 use Rattle.edit_terms.specs.Grid.{GridParts, world_of, content_of_cell, state_of_cell, entity_of, is_same_pos}
 use Rattle.edit_terms.proofs.AreaLemmas.{position_at_index, held_below}
 

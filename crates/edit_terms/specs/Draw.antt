@@ -1,6 +1,6 @@
 -- Random words: the generator ChaCha8Rng of the crate rand_chacha, a stream a ticket, and in it a place for
 -- each position and use.
-use Rattle.std.specs.Prelude.{ℕ, ◌+◌, ◌*◌, ◌^◌, List, ◌++◌, replicate, negsuc}
+use Rattle.std.specs.Prelude.{ℕ, ◌+◌, ◌*◌, ◌^◌, ◌++◌, replicate, negsuc}
 use Rattle.std.specs.Int.{w64, to_le_bytes}
 use Rattle.rand_chacha.specs.ChaCha.{word_at, key_of}
 use Rattle.edit_terms.specs.declared.pos.Pos.{Pos}

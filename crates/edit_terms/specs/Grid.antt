@@ -1,6 +1,6 @@
 -- How a grid keeps a world: its distinct or repeated states, for each position the number of its state, and
 -- the entities by position.
-use Rattle.std.specs.Prelude.{◌≡◌, ℕ, ◌+◌, Bool, true, false, ◌&&◌, ◌==◌, nat_le, nat_lt, if◌then◌else◌, List, [], ◌∷◌, length, map, get_or, Option, Some, None, option_map}
+use Rattle.std.specs.Prelude.{◌≡◌, ℕ, ◌+◌, Bool, true, ◌&&◌, ◌==◌, nat_le, nat_lt, List, [], ◌∷◌, length, map, get_or, Option, option_map}
 use Rattle.std.specs.List.{list_all, find, range_with_len}
 use Rattle.std.specs.Ordering.{int_eq}
 use Rattle.edit_terms.specs.declared.pos.Pos.{Pos}

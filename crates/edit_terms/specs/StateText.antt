@@ -177,9 +177,9 @@ judged earlier _ = Err BadProperty
 abbrev pub listed_behind : List (List ℕ × List ℕ) → List (List ℕ) → Result (List (List ℕ × List ℕ)) TextFault
 listed_behind earlier [] = Ok earlier
 listed_behind earlier (piece ∷ pieces) = elim (judged earlier (cut_at equals piece)) [
-    | Ok p ↦ listed_behind (earlier ++ p ∷ []) pieces
-    | Err fault ↦ Err fault
-  ]
+  | Ok p ↦ listed_behind (earlier ++ p ∷ []) pieces
+  | Err fault ↦ Err fault
+]
 
 -- the properties of the text between brackets; there may be none
 abbrev pub listed_inside : List ℕ → Result (List (List ℕ × List ℕ)) TextFault

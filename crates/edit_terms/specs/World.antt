@@ -1,5 +1,5 @@
 -- A world: a box and what stands at each of its positions; outside the box is air.
-use Rattle.std.specs.Prelude.{◌≡◌, ℕ, Bool, true, if◌then◌else◌, List, [], ◌∷◌, length, get_or, Option, Some, None}
+use Rattle.std.specs.Prelude.{◌≡◌, ℕ, if◌then◌else◌, List, length, get_or, Option, None}
 use Rattle.edit_terms.specs.declared.pos.Pos.{Pos}
 use Rattle.edit_terms.specs.Area.{Area, holds, index_of, volume}
 use Rattle.edit_terms.specs.StateText.{State, air}

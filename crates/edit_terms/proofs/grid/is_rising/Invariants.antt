@@ -1,4 +1,4 @@
-use Rattle.std.proofs.Common.{◌≡◌, ◌≤◌, map, drop}
+use Rattle.std.proofs.Common.{◌≡◌, map, drop}
 use Rattle.std.specs.Arc.{arc_value}
 use Rattle.edit_terms.specs.Grid.{is_rising_from}
 use Rattle.edit_terms.proofs.grid.is_rising.Given as goal
