@@ -2,6 +2,7 @@ pub mod AreaLemmas
 pub mod WorldLemmas
 pub mod PatternLemmas
 pub mod PropertyLemmas
+pub mod PropertyOrder
 pub mod StateTextLemmas
 pub mod TurnLemmas
 pub mod PositionTurns
