@@ -1,9 +1,9 @@
 -- A state's properties in another order: they are sorted to the state's, each key stands once, and each is of the
 -- form. What is found under a key is the same before and after, since the state's keys rise.
-use Rattle.std.proofs.Common.{Less, Equal, Greater, ◌≡◌, ℕ, zero, suc, ◌+◌, ◌<◌, ◌≤◌, Bool, true, false, not, ◌&&◌, ◌||◌, cond, T, List, [], ◌∷◌, ◌++◌, length, get_or, Option, Some, None, refl, sym, ap, ◌∙◌, subst, arith}
+use Rattle.std.proofs.Common.{Less, Equal, Greater, ◌≡◌, ℕ, zero, suc, ◌+◌, ◌<◌, ◌≤◌, true, false, cond, List, [], ◌∷◌, ◌++◌, length, get_or, Option, Some, None, refl, sym, ap, ◌∙◌, subst, arith}
 use Rattle.std.specs.Prelude.{bytes_eq, is_some, Contains}
 use Rattle.std.specs.Option.{unwrap_or}
-use Rattle.std.specs.List.{list_all, list_any}
+use Rattle.std.specs.List.{list_all}
 use Rattle.std.specs.List.Sorted.{IsPermutation}
 use Rattle.std.specs.Ordering.{eq_by_cmp, is_eq, is_lt}
 use Rattle.std.specs.Cmp.{tied_itself}
@@ -15,17 +15,17 @@ use Rattle.std.proofs.lemmas.List.Sums.{AllPass-from_list_all, list_all-from_All
 use Rattle.std.proofs.lemmas.List.Sorted.{IsPermutation-sym, Contains-permutation, All-permutation, length_permutation}
 use Rattle.std.proofs.lemmas.Slice.Eq.{bytes_eq-Decides}
 use Rattle.edit_terms.specs.StateText.{is_property, is_rising, has_key, is_each_key_new, sorted_properties}
-use Rattle.edit_terms.proofs.PropertyLemmas.{Pairs, by_key, one_key, IsFormed, find-sorted, length_sorted, sorted_from_rising, with_sorted, is_so, so_is}
+use Rattle.edit_terms.proofs.PropertyLemmas.{Pairs, by_key, one_key, IsFormed, find-sorted, length_sorted, sorted_from_rising, with_sorted, so_is}
 
 tied : (q : List ℕ) → eq_by_cmp by_key q q ≡ true
 tied q = ap is_eq (tied_itself nat_list_cmp_total q)
 
 equal_keys : (q k : List ℕ) → eq_by_cmp by_key q k ≡ true → q ≡ k
 equal_keys q k h = elim (by_key q k) as (λ r. by_key q k ≡ r → is_eq r ≡ true → q ≡ k) [
-    | Less ↦ λ e i. absurd cc
-    | Equal ↦ λ e i. one_key q k e
-    | Greater ↦ λ e i. absurd cc
-  ] refl h
+  | Less ↦ λ e i. absurd cc
+  | Equal ↦ λ e i. one_key q k e
+  | Greater ↦ λ e i. absurd cc
+] refl h
 
 -- what is found stands in the list
 found_stands : (q w : List ℕ) (ps : Pairs) → find by_key q ps ≡ Some w → Contains ps (q, w)
@@ -92,9 +92,9 @@ missed_key q (p ∷ ps) h =
     elim (eq_by_cmp by_key q p.0) as (λ b. eq_by_cmp by_key q p.0 ≡ b → cond b (Some p.1) (find by_key q ps) ≡ None → has_key (p ∷ ps) q ≡ false) [
       | true ↦ λ e f. absurd cc
       | false ↦ λ e f. or_from _ _ (elim (bytes_eq p.0 q) as (λ b. bytes_eq p.0 q ≡ b → b ≡ false) [
-          | true ↦ λ g. absurd (both_ways (eq_by_cmp by_key q p.0) e (subst (λ x. eq_by_cmp by_key q x ≡ true) (sym ((bytes_eq-Decides p.0 q).0 g)) (tied q)))
-          | false ↦ λ g. refl
-        ] refl) (missed_key q ps f)
+        | true ↦ λ g. absurd (both_ways (eq_by_cmp by_key q p.0) e (subst (λ x. eq_by_cmp by_key q x ≡ true) (sym ((bytes_eq-Decides p.0 q).0 g)) (tied q)))
+        | false ↦ λ g. refl
+      ] refl) (missed_key q ps f)
     ] refl h
 
 -- where sorting loses nothing, no key stands twice
@@ -105,18 +105,18 @@ each_new earlier (p ∷ ps) kept apart =
     let most = length_sorted ps in
     let grown : cond (is_some (find by_key p.0 (sorted_properties ps))) (length (sorted_properties ps)) (length (sorted_properties ps) + 1) ≡ suc (length ps) = sym (length-put by_key nat_list_cmp_total p.0 p.1 (sorted_properties ps) (with_sorted [] ps tt)) ∙ kept in
     let none : find by_key p.0 (sorted_properties ps) ≡ None =
-      elim (find by_key p.0 (sorted_properties ps)) as (λ (o : Option (List ℕ)). cond (is_some o) (length (sorted_properties ps)) (length (sorted_properties ps) + 1) ≡ suc (length ps) → o ≡ None) [
-        | Some w ↦ λ g. absurd (omega (arith, g, most))
-        | None ↦ λ g. refl
-      ] grown in
+    elim (find by_key p.0 (sorted_properties ps)) as (λ (o : Option (List ℕ)). cond (is_some o) (length (sorted_properties ps)) (length (sorted_properties ps) + 1) ≡ suc (length ps) → o ≡ None) [
+      | Some w ↦ λ g. absurd (omega (arith, g, most))
+      | None ↦ λ g. refl
+    ] grown in
     let rest : length (sorted_properties ps) ≡ length ps = let g = sym (ap (λ (o : Option (List ℕ)). cond (is_some o) (length (sorted_properties ps)) (length (sorted_properties ps) + 1)) none) ∙ grown in omega (arith, g) in
     let missed : has_key ps p.0 ≡ false = missed_key p.0 ps (sym (find-sorted p.0 ps) ∙ none) in
     and_from _ _ (not_from_false _ (apart p.0 own)) (each_new (earlier ++ p ∷ []) ps rest (λ k has.
-      list_any-append (λ q. bytes_eq q.0 k) earlier (p ∷ [])
-      ∙ or_from _ _ (apart k (or_right _ _ has)) (or_from _ _ (elim (bytes_eq p.0 k) as (λ b. bytes_eq p.0 k ≡ b → b ≡ false) [
-          | true ↦ λ e. absurd (both_ways (has_key ps p.0) missed (subst (λ x. has_key ps x ≡ true) (sym ((bytes_eq-Decides p.0 k).0 e)) has))
-          | false ↦ λ e. refl
-        ] refl) refl)))
+    list_any-append (λ q. bytes_eq q.0 k) earlier (p ∷ [])
+    ∙ or_from _ _ (apart k (or_right _ _ has)) (or_from _ _ (elim (bytes_eq p.0 k) as (λ b. bytes_eq p.0 k ≡ b → b ≡ false) [
+      | true ↦ λ e. absurd (both_ways (has_key ps p.0) missed (subst (λ x. has_key ps x ≡ true) (sym ((bytes_eq-Decides p.0 k).0 e)) has))
+      | false ↦ λ e. refl
+    ] refl) refl)))
 
 -- what a state's properties in another order are
 pub record IsListing (xs ys : Pairs) : Type 0 where
