@@ -1,10 +1,10 @@
 -- The cells of a clipboard lie in its bounds: what lies in two boxes lies in their overlap, and turns and flips of a
 -- box and of its positions go together.
-use Rattle.std.proofs.Common.{◌≡◌, ℕ, zero, suc, ◌+◌, ◌-◌, ◌*◌, ◌%◌, ◌<◌, ◌≤◌, Bool, true, false, ◌&&◌, cond, ℤ, pos, negsuc, ◌+ℤ◌, ◌-ℤ◌, ◌≤ℤ◌, ◌<ℤ◌, Option, Some, None, refl, sym, ap, ◌∙◌, subst, arith}
+use Rattle.std.proofs.Common.{◌≡◌, ℕ, zero, suc, ◌-◌, ◌*◌, ◌%◌, ◌<◌, Bool, true, false, ◌&&◌, cond, ℤ, pos, negsuc, ◌+ℤ◌, ◌-ℤ◌, ◌≤ℤ◌, ◌<ℤ◌, Some, None, refl, sym, ap, ◌∙◌, subst, arith}
 use Rattle.std.specs.Prelude.{⊤, neg_ℤ, int_le, int_lt, ◌==◌, is_some}
 use Rattle.std.specs.Int.{int_max, int_min, int_gap}
 use Rattle.std.specs.Option.{option_map_or}
-use Rattle.std.proofs.lemmas.Bool.{and_parts, and_from, ne_eqb, cond-true}
+use Rattle.std.proofs.lemmas.Bool.{and_parts, and_from, ne_eqb}
 use Rattle.std.proofs.lemmas.Int.{ints, clamps}
 use Rattle.std.proofs.lemmas.Nat.{mul-lt, mod_below}
 use Rattle.edit_terms.specs.declared.pos.Pos.{Pos}
@@ -15,7 +15,7 @@ use Rattle.edit_terms.specs.declared.clip.Clip.{Clip}
 use Rattle.edit_terms.specs.Area.{Area, is_from, holds, volume}
 use Rattle.edit_terms.specs.Region.{is_selected}
 use Rattle.edit_terms.specs.World.{World, content_at}
-use Rattle.edit_terms.specs.Transform.{times, transformed, undone, quarter_turned_position, flipped_position, turned_position, source_position, turned_content}
+use Rattle.edit_terms.specs.Transform.{times, undone, quarter_turned_position, flipped_position, turned_position, source_position, turned_content}
 use Rattle.edit_terms.specs.Clipboard.{shared_size, overlap, relative_to, placed_at, mirrored, quarter_turned_area, flipped_area, turned_area, clip_box_of, copied_from, copied_content, clipboard_of, Encloses, is_in_bounds, tile_coordinate, tile_of}
 use Rattle.edit_terms.proofs.TurnLemmas.{IsTurning, transformed-undone, undone-transformed}
 use Rattle.edit_terms.proofs.PositionTurns.{position_turning}
@@ -183,7 +183,7 @@ answers_alike false false f g = refl
 pub holds-turned : (t : Transform) (a : Area) (r : Pos) → holds (turned_area t a) (turned_position t r) ≡ holds a r
 holds-turned t a r = answers_alike (holds (turned_area t a) (turned_position t r)) (holds a r)
     (λ h. subst (λ (b : Area). holds b r ≡ true) (undone-transformed area_turning t a tt)
-      (subst (λ (q : Pos). holds (undone quarter_turned_area flipped_area t (turned_area t a)) q ≡ true) (undone-transformed position_turning t r tt) (held_undone t (turned_area t a) (turned_position t r) h)))
+    (subst (λ (q : Pos). holds (undone quarter_turned_area flipped_area t (turned_area t a)) q ≡ true) (undone-transformed position_turning t r tt) (held_undone t (turned_area t a) (turned_position t r) h)))
     (held_transformed t a r)
 
 -- a coordinate below the end of a gap is below its upper number
@@ -211,11 +211,11 @@ shared_from low size first count v h =
 pub holds-overlap : (a b : Area) (p : Pos) → holds (overlap a b) p ≡ (holds a p && holds b p)
 holds-overlap a b p = answers_alike (holds (overlap a b) p) (holds a p && holds b p)
     (λ h.
-      let is = held (overlap a b) p h in
-      let x = shared_from a.least.x a.width b.least.x b.width p.x is.x in
-      let y = shared_from a.least.y a.height b.least.y b.height p.y is.y in
-      let z = shared_from a.least.z a.length b.least.z b.length p.z is.z in
-      and_from (holds a p) (holds b p) (and_from _ _ (and_from _ _ x.one y.one) z.one) (and_from _ _ (and_from _ _ x.other y.other) z.other))
+    let is = held (overlap a b) p h in
+    let x = shared_from a.least.x a.width b.least.x b.width p.x is.x in
+    let y = shared_from a.least.y a.height b.least.y b.height p.y is.y in
+    let z = shared_from a.least.z a.length b.least.z b.length p.z is.z in
+    and_from (holds a p) (holds b p) (and_from _ _ (and_from _ _ x.one y.one) z.one) (and_from _ _ (and_from _ _ x.other y.other) z.other))
     (λ h. let parts = and_parts (holds a p) (holds b p) h in in_overlap a b p parts.0 parts.1)
 
 rem_from : (low : ℤ) (size : ℕ) (v : ℤ) → 0 < size → is_from low size (tile_coordinate low size v) ≡ true
@@ -256,7 +256,7 @@ in_box frame clip area r g h =
     let near : holds box (relative_to clip.origin p) ≡ true = held_relative clip.origin (overlap frame area) p both in
     let source : holds box (source_position clip.transform r) ≡ true = subst (λ (q : Pos). holds box q ≡ true) (relative_placed clip.origin (source_position clip.transform r)) near in
     let turned : holds (turned_area clip.transform box) r ≡ true =
-      subst (λ (q : Pos). holds (turned_area clip.transform box) q ≡ true) (transformed-undone position_turning clip.transform r tt) (held_transformed clip.transform box (source_position clip.transform r) source) in
+    subst (λ (q : Pos). holds (turned_area clip.transform box) q ≡ true) (transformed-undone position_turning clip.transform r tt) (held_transformed clip.transform box (source_position clip.transform r) source) in
     ap (λ b. option_map_or (λ bounds. holds bounds r) (cond b None (Some (turned_area clip.transform box))) false) (some_volume (overlap frame area) p both) ∙ turned
 
 from_some : {A : Type 0} (b : Bool) (a : A) → is_some (cond b (Some a) None) ≡ true → b ≡ true

@@ -3,6 +3,7 @@ pub mod WorldLemmas
 pub mod PatternLemmas
 pub mod Examples
 pub mod PropertyLemmas
+pub mod PropertyOrder
 pub mod StateTextLemmas
 pub mod TurnLemmas
 pub mod PositionTurns

@@ -1,12 +1,11 @@
 -- Worked examples of pattern values, each by computation.
-use Rattle.std.proofs.Common.{◌≡◌, ℕ, true, false, cond, refl, List, [], ◌∷◌, map, length, Option, Some, None, pos, negsuc}
+use Rattle.std.proofs.Common.{◌≡◌, ℕ, false, cond, refl, List, [], ◌∷◌, map, Some, pos, negsuc}
 use Rattle.std.specs.Prelude.{codes, bytes_eq}
 use Rattle.std.specs.List.{range_with_len}
 use Rattle.edit_terms.specs.declared.pos.Pos.{Pos}
 use Rattle.edit_terms.specs.declared.region.Kind.TheVariants.{Cuboid}
 use Rattle.edit_terms.specs.declared.clip.Clip.{Clip}
 use Rattle.edit_terms.specs.declared.pattern.Value.TheVariants.{Fixed, Rename, Put, RenamePut}
-use Rattle.edit_terms.specs.Area.{Area}
 use Rattle.edit_terms.specs.StateText.{State, air}
 use Rattle.edit_terms.specs.World.{World, BlockContent, EntityTags, without_entity}
 use Rattle.edit_terms.specs.Clipboard.{CopiedBlocks, clipboard_of, no_blocks, tiled}

@@ -1,11 +1,11 @@
 -- Positions are turned and flipped as `IsTurning` asks.
-use Rattle.std.proofs.Common.{◌≡◌, ℕ, refl, sym, ap, ℤ, pos, negsuc}
+use Rattle.std.proofs.Common.{◌≡◌, refl, sym}
 use Rattle.std.specs.Prelude.{neg_ℤ, ⊤}
 use Rattle.std.proofs.Math.IntN.{neg_ℤ-neg_ℤ}
 use Rattle.edit_terms.specs.declared.pos.Pos.{Pos}
 use Rattle.edit_terms.specs.declared.direction.Direction.{Direction}
 use Rattle.edit_terms.specs.declared.direction.Direction.TheVariants.{North, South, East, West, Up, Down}
-use Rattle.edit_terms.specs.Transform.{times, quarter_turned_position, flipped_position}
+use Rattle.edit_terms.specs.Transform.{quarter_turned_position, flipped_position}
 use Rattle.edit_terms.proofs.TurnLemmas.{IsTurning}
 
 -- every position may be turned

@@ -1,13 +1,13 @@
 -- Properties sorted by key: what sorting keeps, and that a map of keys and values may be done before or after it.
-use Rattle.std.proofs.Common.{◌≡◌, ℕ, ◌+◌, ◌≤◌, Bool, true, false, not, ◌&&◌, cond, T, List, [], ◌∷◌, ◌++◌, length, map, Option, Some, None, refl, sym, ap, ◌∙◌, subst, arith, leb, ltb}
+use Rattle.std.proofs.Common.{◌≡◌, ℕ, ◌+◌, ◌≤◌, Bool, true, false, ◌&&◌, cond, T, List, [], ◌∷◌, length, map, Some, None, refl, sym, ap, ◌∙◌, subst, arith}
 use Rattle.std.specs.Prelude.{nat_le, option_map}
 use Rattle.std.specs.List.{list_all}
 use Rattle.std.proofs.Common.{Ordering, Less, Equal, Greater}
 use Rattle.std.specs.Ordering.{nat_cmp, is_lt, is_eq, eq_by_cmp}
-use Rattle.std.specs.Cmp.{IsTotalOrder, tied_itself}
+use Rattle.std.specs.Cmp.{tied_itself}
 use Rattle.std.specs.Cmp.Lexicographic.{slice_cmp}
 use Rattle.std.specs.FinMap.{slice_cmp-IsAntisymmetric, nat_cmp-IsAntisymmetric}
-use Rattle.std.specs.FinMap.Entries.{put, find, is_sorted, below_all, by_order, is_sorted-put, find-put, same_entries, length-put}
+use Rattle.std.specs.FinMap.Entries.{find, is_sorted, below_all, by_order, is_sorted-put, find-put, same_entries}
 use Rattle.std.proofs.lemmas.Cmp.{nat_list_cmp_total}
 use Rattle.std.specs.Prelude.{bytes_eq}
 use Rattle.std.specs.Option.{option_or}
@@ -17,7 +17,7 @@ use Rattle.std.proofs.lemmas.List.Sorted.{IsPermutation-refl, IsPermutation-sym,
 use Rattle.std.proofs.lemmas.Slice.Eq.{bytes_eq-Decides}
 use Rattle.std.proofs.lemmas.Map.Text.{is_eq-slice_cmp}
 use Rattle.std.proofs.lemmas.Bool.{and_parts, and_from, leb-true, le-leb, both_ways, cond-true, cond-false}
-use Rattle.edit_terms.specs.StateText.{is_property, is_below_first, is_key_below, is_rising, is_properties, put_property, with_properties, sorted_properties, property_of}
+use Rattle.edit_terms.specs.StateText.{is_property, is_below_first, is_rising, is_properties, put_property, with_properties, sorted_properties, property_of}
 
 abbrev pub Pairs : Type 0
 Pairs = List (List ℕ × List ℕ)
@@ -219,9 +219,9 @@ property_of-find (p ∷ ps) key =
   where
     apart : bytes_eq p.0 key ≡ false → bytes_eq key p.0 ≡ false
     apart e = elim (bytes_eq key p.0) as (λ b. bytes_eq key p.0 ≡ b → b ≡ false) [
-        | true ↦ λ f. absurd (both_ways (bytes_eq p.0 key) e ((bytes_eq-Decides p.0 key).1 (sym ((bytes_eq-Decides key p.0).0 f))))
-        | false ↦ λ f. refl
-      ] refl
+      | true ↦ λ f. absurd (both_ways (bytes_eq p.0 key) e ((bytes_eq-Decides p.0 key).1 (sym ((bytes_eq-Decides key p.0).0 f))))
+      | false ↦ λ f. refl
+    ] refl
 
 find-with : (old ps : Pairs) (q : List ℕ) → find by_key q (with_properties old ps) ≡ option_or (find by_key q ps) (find by_key q old)
 find-with old [] q = refl

@@ -1,5 +1,5 @@
 -- Worked examples of state texts, each by computation.
-use Rattle.std.proofs.Common.{◌≡◌, refl, [], ◌∷◌, Some, None}
+use Rattle.std.proofs.Common.{◌≡◌, refl, [], ◌∷◌, Some}
 use Rattle.std.specs.Prelude.{codes}
 use Rattle.edit_terms.specs.StateText.{BadName, BadProperty, RepeatedKey, TooManyProperties, state_of_text, state_text_fault, written_state}
 

@@ -1,13 +1,12 @@
 -- State texts: a text that spells a state is read as that state, and what is read as a state spells it. The bytes
 -- at which texts are cut stand in no name, key or value, so the pieces of a spelled text are the parts that it was
 -- joined from.
-use Rattle.std.proofs.Common.{◌≡◌, ℕ, zero, suc, ◌+◌, ◌<◌, ◌≤◌, Bool, true, false, not, ◌&&◌, ◌||◌, cond, ◌⊎◌, inl, inr, T, ◌↔◌, List, [], ◌∷◌, ◌++◌, length, map, get_or, take, drop, Option, Some, None, refl, sym, ap, ◌∙◌, subst, arith, leb, ltb, append_assoc, append-nil, length-append}
+use Rattle.std.proofs.Common.{◌≡◌, ℕ, ◌+◌, ◌<◌, ◌≤◌, Bool, true, false, not, ◌||◌, cond, ◌⊎◌, inl, inr, ◌↔◌, List, [], ◌∷◌, ◌++◌, length, map, get_or, Option, Some, None, refl, sym, ap, ◌∙◌, subst, arith, append_assoc, append-nil, length-append}
 use Rattle.std.specs.Prelude.{nat_le, nat_lt, ◌==◌, Result, Ok, Err, is_some, codes, bytes_eq, position}
-use Rattle.std.specs.List.{list_all, list_any, slice_split, onto_first, join_with_byte, position_or_len, before_first, after_first}
+use Rattle.std.specs.List.{list_all, onto_first, join_with_byte, position_or_len, before_first, after_first}
 use Rattle.std.specs.Result.{result_ok, result_err, result_unwrap_or}
-use Rattle.std.specs.FinMap.Entries.{find, length-put, below_all, is_sorted}
-use Rattle.std.proofs.lemmas.Bool.{and_parts, and_from, or_parts, or_from, both_ways, leb-true, leb-false, le-leb, lt-leb, ltb-true, lt-ltb, eq-eqb, eqb-true, not-true, not_from_false, cond-true, or_left, or_right}
-use Rattle.std.proofs.lemmas.List.{append_cancel_left}
+use Rattle.std.specs.FinMap.Entries.{find}
+use Rattle.std.proofs.lemmas.Bool.{and_parts, and_from, both_ways, leb-false, lt-leb, ltb-true, eq-eqb, eqb-true, not-true, not_from_false, cond-true, or_left, or_right}
 use Rattle.std.proofs.lemmas.List.Folds.{list_all-append, list_any-append}
 use Rattle.std.proofs.lemmas.List.Sums.{split_at_first, passes_at_first}
 use Rattle.std.proofs.lemmas.List.Splits.{join_with_byte-slice_split}
@@ -16,11 +15,10 @@ use Rattle.std.specs.List.Sorted.{IsPermutation}
 use Rattle.std.proofs.lemmas.List.Sorted.{IsPermutation-refl}
 use Rattle.std.proofs.lemmas.Slice.Eq.{bytes_eq-Decides}
 use Rattle.std.proofs.lemmas.Map.Text.{is_eq-slice_cmp}
-use Rattle.std.proofs.lemmas.Cmp.{nat_list_cmp_total}
-use Rattle.std.specs.Ordering.{eq_by_cmp, is_lt}
-use Rattle.std.specs.Cmp.{tied_itself}
+use Rattle.std.specs.Ordering.{eq_by_cmp}
 use Rattle.edit_terms.specs.StateText.{State, IsState, IsStateText, IsSomeStateText, TextFault, BadName, BadProperty, RepeatedKey, TooManyProperties, is_word_byte, is_namespace_byte, is_path_byte, is_colon, is_part, is_split_at, is_block_name, with_namespace, is_property_word, is_property, has_key, is_each_key_new, sorted_properties, opening, closing, comma, equals, spelled_property, in_brackets, written_properties, written_state, cut_at, judged, listed_behind, listed_inside, listed_before_end, listed_in, state_listed, state_in, state_reading, state_of_text, state_text_fault}
-use Rattle.edit_terms.proofs.PropertyLemmas.{Pairs, by_key, one_key, IsFormed, formed, formed_sorted, find-sorted, sorted_rising, sorted_from_rising, with_sorted, sorted_more, is_so, so_is}
+use Rattle.edit_terms.proofs.PropertyOrder.{listing}
+use Rattle.edit_terms.proofs.PropertyLemmas.{Pairs, by_key, formed, formed_sorted, sorted_more}
 
 -- ---- cutting
 
@@ -46,9 +44,9 @@ lacks_other kind c [] other h = refl
 lacks_other kind c (b ∷ text) other h =
     let parts = and_parts (kind b) (list_all kind text) h in
     and_from _ _ (elim (b == c) as (λ t. (b == c) ≡ t → not t ≡ true) [
-        | true ↦ λ e. absurd (both_ways (kind c) other (subst (λ x. kind x ≡ true) (eqb-true b c e) parts.0))
-        | false ↦ λ e. refl
-      ] refl) (lacks_other kind c text other parts.1)
+      | true ↦ λ e. absurd (both_ways (kind c) other (subst (λ x. kind x ≡ true) (eqb-true b c e) parts.0))
+      | false ↦ λ e. refl
+    ] refl) (lacks_other kind c text other parts.1)
 
 all_wider : (narrow wide : ℕ → Bool) (text : List ℕ) → ((b : ℕ) → narrow b ≡ true → wide b ≡ true) → list_all narrow text ≡ true → list_all wide text ≡ true
 all_wider narrow wide [] w h = refl
@@ -78,8 +76,8 @@ named_bytes name h =
           let after = (and_parts (nat_lt 0 (length (after_first is_colon name))) (list_all is_path_byte (after_first is_colon name)) both.1).1 in
           subst (λ (n : List ℕ). list_all is_name_byte n ≡ true) (sym (split_at_first is_colon name 0 lt))
           (all_join is_name_byte (before_first is_colon name) (get_or name (position_or_len is_colon name) 0 ∷ after_first is_colon name)
-            (all_wider is_namespace_byte is_name_byte (before_first is_colon name) (λ b e. or_left _ _ (or_left _ _ e)) before)
-            (and_from _ _ (or_right _ _ (passes_at_first is_colon name 0 lt)) (all_wider is_path_byte is_name_byte (after_first is_colon name) (λ b e. or_left _ _ e) after)))
+          (all_wider is_namespace_byte is_name_byte (before_first is_colon name) (λ b e. or_left _ _ (or_left _ _ e)) before)
+          (and_from _ _ (or_right _ _ (passes_at_first is_colon name 0 lt)) (all_wider is_path_byte is_name_byte (after_first is_colon name) (λ b e. or_left _ _ e) after)))
       | false ↦ λ within split. absurd cc
     ] refl (and_parts (nat_le (length name) 256) (is_split_at name (position is_colon name)) h).1
 
@@ -110,8 +108,8 @@ property_bytes : (p : List ℕ × List ℕ) → is_property p ≡ true → list_
 property_bytes p h =
     let parts = and_parts (is_property_word p.0) (is_property_word p.1) h in
     all_join is_property_byte p.0 (equals ∷ p.1)
-      (all_wider is_word_byte is_property_byte p.0 (λ b e. or_left _ _ e) (word_bytes p.0 parts.0))
-      (all_wider is_word_byte is_property_byte p.1 (λ b e. or_left _ _ e) (word_bytes p.1 parts.1))
+    (all_wider is_word_byte is_property_byte p.0 (λ b e. or_left _ _ e) (word_bytes p.0 parts.0))
+    (all_wider is_word_byte is_property_byte p.1 (λ b e. or_left _ _ e) (word_bytes p.1 parts.1))
 
 -- a byte of what stands between brackets
 abbrev is_inner_byte : ℕ → Bool
@@ -125,8 +123,8 @@ inner_bytes (p ∷ []) h =
 inner_bytes (p ∷ q ∷ ps) h =
     let parts = and_parts (is_property p) (list_all is_property (q ∷ ps)) h in
     all_join is_inner_byte (spelled_property p) (comma ∷ join_with_byte comma (map spelled_property (q ∷ ps)))
-      (all_wider is_property_byte is_inner_byte (spelled_property p) (λ b e. or_left _ _ e) (property_bytes p parts.0))
-      (inner_bytes (q ∷ ps) parts.1)
+    (all_wider is_property_byte is_inner_byte (spelled_property p) (λ b e. or_left _ _ e) (property_bytes p parts.0))
+    (inner_bytes (q ∷ ps) parts.1)
 
 cut_property : (p : List ℕ × List ℕ) → is_property p ≡ true → cut_at equals (spelled_property p) ≡ p.0 ∷ p.1 ∷ []
 cut_property p h =
@@ -192,7 +190,7 @@ brackets_read name ps named is new few =
     let no_end : lacks closing inside ≡ true = lacks_other is_inner_byte closing inside refl bytes in
     let no_more : lacks opening (inside ++ closing ∷ []) ≡ true = all_join (λ b. not (b == opening)) inside (closing ∷ []) (lacks_other is_inner_byte opening inside refl bytes) refl in
     let cut : cut_at opening (name ++ in_brackets ps) ≡ name ∷ (inside ++ closing ∷ []) ∷ [] =
-      cut_before opening name (inside ++ closing ∷ []) (name_lacks name named) ∙ ap (λ (l : List (List ℕ)). name ∷ l) (cut_lacking opening (inside ++ closing ∷ []) no_more) in
+    cut_before opening name (inside ++ closing ∷ []) (name_lacks name named) ∙ ap (λ (l : List (List ℕ)). name ∷ l) (cut_lacking opening (inside ++ closing ∷ []) no_more) in
     let end : cut_at closing (inside ++ closing ∷ []) ≡ inside ∷ [] ∷ [] = cut_before closing inside [] no_end in
     ap state_in cut
     ∙ cond-true (is_block_name (with_namespace name)) _ _ named
@@ -211,36 +209,21 @@ found_new earlier [] k has new = refl
 found_new earlier (q ∷ ps) k has new =
     let news = and_parts (not (has_key earlier q.0)) (is_each_key_new (earlier ++ q ∷ []) ps) new in
     let other : eq_by_cmp by_key k q.0 ≡ false = is_eq-slice_cmp k q.0 ∙ elim (bytes_eq k q.0) as (λ b. bytes_eq k q.0 ≡ b → b ≡ false) [
-        | true ↦ λ e. absurd (both_ways (has_key earlier q.0) (not-true _ news.0) (subst (λ x. has_key earlier x ≡ true) ((bytes_eq-Decides k q.0).0 e) has))
-        | false ↦ λ e. refl
-      ] refl in
+      | true ↦ λ e. absurd (both_ways (has_key earlier q.0) (not-true _ news.0) (subst (λ x. has_key earlier x ≡ true) ((bytes_eq-Decides k q.0).0 e) has))
+      | false ↦ λ e. refl
+    ] refl in
     let more : has_key (earlier ++ q ∷ []) k ≡ true = list_any-append (λ p. bytes_eq p.0 k) earlier (q ∷ []) ∙ or_left _ _ has in
     (λ i. cond (other i) (Some q.1) (found_new (earlier ++ q ∷ []) ps k more news.1 i))
-
--- where each key is new, sorting loses nothing
-length-sorted_new : (earlier ps : Pairs) → is_each_key_new earlier ps ≡ true → length (sorted_properties ps) ≡ length ps
-length-sorted_new earlier [] new = refl
-length-sorted_new earlier (p ∷ ps) new =
-    let news = and_parts (not (has_key earlier p.0)) (is_each_key_new (earlier ++ p ∷ []) ps) new in
-    let own : has_key (p ∷ []) p.0 ≡ true = or_left _ _ ((bytes_eq-Decides p.0 p.0).1 refl) in
-    let has : has_key (earlier ++ p ∷ []) p.0 ≡ true = list_any-append (λ q. bytes_eq q.0 p.0) earlier (p ∷ []) ∙ or_right _ _ own in
-    let none : find by_key p.0 (sorted_properties ps) ≡ None = find-sorted p.0 ps ∙ found_new (earlier ++ p ∷ []) ps p.0 has news.1 in
-    let rest = length-sorted_new (earlier ++ p ∷ []) ps news.1 in
-    length-put by_key nat_list_cmp_total p.0 p.1 (sorted_properties ps) (with_sorted [] ps tt)
-    ∙ ap (λ (o : Option (List ℕ)). cond (is_some o) (length (sorted_properties ps)) (length (sorted_properties ps) + 1)) none
-    ∙ omega (arith, rest)
 
 -- a text that stands for a state is read as that state
 pub read_from_text : (text : List ℕ) (s : State) → IsStateText text s → state_reading text ≡ Ok s
 read_from_text text s is =
-    let named : is_block_name (with_namespace is.name) ≡ true = subst (λ (n : List ℕ). is_block_name n ≡ true) is.named is.valid.named in
-    let ps = formed s.properties is.valid.formed in
-    let count : length s.properties ≡ length is.listed = ap (λ (l : Pairs). length l) is.sorted ∙ length-sorted_new [] is.listed is.distinct in
-    let few : length is.listed ≤ 16 = let l = ps.few in omega (arith, l, count) in
-    let whole : (record { name = with_namespace is.name; properties = sorted_properties is.listed }) ≡ s = λ i. record { name = (sym is.named) i; properties = (sym is.sorted) i } in
+    let named : is_block_name (with_namespace is.name) ≡ true = subst (λ (n : List ℕ). is_block_name n ≡ true) (sym is.named) is.valid.named in
+    let ps = listing is.listed s.properties is.order (formed s.properties is.valid.formed) in
+    let whole : (record { name = with_namespace is.name; properties = sorted_properties is.listed }) ≡ s = λ i. record { name = is.named i; properties = ps.sorted i } in
     elim is.spelled [
-      | inl e ↦ ap state_reading e ∙ brackets_read is.name is.listed named is.formed is.distinct few ∙ ap Ok whole
-      | inr e ↦ ap state_reading e ∙ shorter is.name is.listed named is.formed is.distinct few ∙ ap Ok whole
+      | inl e ↦ ap state_reading e ∙ brackets_read is.name is.listed named ps.formed ps.distinct ps.few ∙ ap Ok whole
+      | inr e ↦ ap state_reading e ∙ shorter is.name is.listed named ps.formed ps.distinct ps.few ∙ ap Ok whole
     ]
   where
     shorter : (name : List ℕ) (ps : Pairs) → is_block_name (with_namespace name) ≡ true → list_all is_property ps ≡ true → is_each_key_new [] ps ≡ true → length ps ≤ 16 → state_reading (name ++ written_properties ps) ≡ Ok (record { name = with_namespace name; properties = sorted_properties ps })
@@ -248,28 +231,6 @@ read_from_text text s is =
     shorter name (p ∷ ps) named is new few = brackets_read name (p ∷ ps) named is new few
 
 -- ---- the written form
-
-below_missed : (x : List ℕ) (ps : Pairs) → below_all by_key x ps ≡ true → has_key ps x ≡ false
-below_missed x [] h = refl
-below_missed x (q ∷ ps) h =
-    let parts = and_parts (is_lt (by_key x q.0)) (below_all by_key x ps) h in
-    let tied : is_lt (by_key x x) ≡ false = ap is_lt (tied_itself nat_list_cmp_total x) in
-    or_from _ _ (elim (bytes_eq q.0 x) as (λ b. bytes_eq q.0 x ≡ b → b ≡ false) [
-        | true ↦ λ e. absurd (both_ways (is_lt (by_key x x)) tied (subst (λ k. is_lt (by_key x k) ≡ true) ((bytes_eq-Decides q.0 x).0 e) parts.0))
-        | false ↦ λ e. refl
-      ] refl) (below_missed x ps parts.1)
-
-new_rising : (earlier ps : Pairs) → T (is_sorted by_key ps) → ((k : List ℕ) → has_key ps k ≡ true → has_key earlier k ≡ false) → is_each_key_new earlier ps ≡ true
-new_rising earlier [] up apart = refl
-new_rising earlier (p ∷ ps) up apart =
-    let parts = and_parts (below_all by_key p.0 ps) (is_sorted by_key ps) (so_is _ up) in
-    let own : has_key (p ∷ ps) p.0 ≡ true = or_left _ _ ((bytes_eq-Decides p.0 p.0).1 refl) in
-    and_from _ _ (not_from_false _ (apart p.0 own)) (new_rising (earlier ++ p ∷ []) ps (is_so _ parts.1) (λ k has.
-      list_any-append (λ q. bytes_eq q.0 k) earlier (p ∷ [])
-      ∙ or_from _ _ (apart k (or_right _ _ has)) (or_from _ _ (elim (bytes_eq p.0 k) as (λ b. bytes_eq p.0 k ≡ b → b ≡ false) [
-          | true ↦ λ e. absurd (both_ways (has_key ps p.0) (below_missed p.0 ps parts.0) (subst (λ x. has_key ps x ≡ true) (sym ((bytes_eq-Decides p.0 k).0 e)) has))
-          | false ↦ λ e. refl
-        ] refl) refl)))
 
 -- a block's name keeps its namespace
 with_own_namespace : (name : List ℕ) → is_block_name name ≡ true → with_namespace name ≡ name
@@ -281,22 +242,29 @@ with_own_namespace name h =
 
 -- the written form of a state stands for it
 pub written_stands : (s : State) → IsState s → IsStateText (written_state s) s
-written_stands s is =
-    let ps = formed s.properties is.formed in
-    record {
-      name = s.name;
-      listed = s.properties;
-      spelled = inr refl;
-      named = sym (with_own_namespace s.name is.named);
-      sorted = sym (sorted_rising s.properties ps.rising);
-      distinct = new_rising [] s.properties (sorted_from_rising s.properties ps.rising) (λ k has. refl);
-      formed = ps.all;
-      valid = is;
-    }
+written_stands s is = record {
+  valid = is;
+  name = s.name;
+  named = with_own_namespace s.name is.named;
+  listed = s.properties;
+  order = IsPermutation-refl s.properties;
+  spelled = inr refl;
+}
 
 -- a text stands for one state at most
 pub one_state : (text : List ℕ) (s t : State) → IsStateText text s → IsStateText text t → s ≡ t
 one_state text s t g h = ap (λ (r : Result State TextFault). result_unwrap_or r s) (sym (read_from_text text s g) ∙ read_from_text text t h)
+
+-- ---- sorting
+
+-- sorting properties of distinct keys moves them
+pub sorted-IsPermutation : (earlier ps : Pairs) → is_each_key_new earlier ps ≡ true → IsPermutation ps (sorted_properties ps)
+sorted-IsPermutation earlier [] new = IsPermutation-refl []
+sorted-IsPermutation earlier (p ∷ ps) new =
+    let news = and_parts (not (has_key earlier p.0)) (is_each_key_new (earlier ++ p ∷ []) ps) new in
+    let own : has_key (p ∷ []) p.0 ≡ true = or_left _ _ ((bytes_eq-Decides p.0 p.0).1 refl) in
+    let has : has_key (earlier ++ p ∷ []) p.0 ≡ true = list_any-append (λ q. bytes_eq q.0 p.0) earlier (p ∷ []) ∙ or_right _ _ own in
+    sorted_more p ps (found_new (earlier ++ p ∷ []) ps p.0 has news.1) (sorted-IsPermutation (earlier ++ p ∷ []) ps news.1)
 
 -- ---- what is read is spelled
 
@@ -343,7 +311,7 @@ listed_is earlier [] all h =
     record { listed = []; whole = sym same ∙ sym (append-nil earlier); spelled = refl; formed = refl; new = refl; few = inr refl }
 listed_is earlier (piece ∷ pieces) all h =
     elim (judged earlier (cut_at equals piece)) as (λ (r : Result (List ℕ × List ℕ) TextFault). judged earlier (cut_at equals piece) ≡ r
-        → elim r as (λ _. Result Pairs TextFault) [ Ok p ↦ listed_behind (earlier ++ p ∷ []) pieces | Err fault ↦ Err fault ] ≡ Ok all → IsListed earlier (piece ∷ pieces) all) [
+    → elim r as (λ _. Result Pairs TextFault) [ Ok p ↦ listed_behind (earlier ++ p ∷ []) pieces | Err fault ↦ Err fault ] ≡ Ok all → IsListed earlier (piece ∷ pieces) all) [
       | Ok p ↦ λ is h.
           let one = judged_is earlier (cut_at equals piece) p is in
           let rest = listed_is (earlier ++ p ∷ []) pieces all h in
@@ -397,7 +365,7 @@ before_end_is name rest (inside ∷ []) ps e h = absurd cc
 before_end_is name rest (inside ∷ [] ∷ []) ps e h =
     let is = inside_is inside ps h in
     let whole : rest ≡ join_with_byte comma (map spelled_property ps) ++ closing ∷ [] =
-      sym (join_with_byte-slice_split closing rest) ∙ ap (join_with_byte closing) e ∙ ap (λ (l : List ℕ). l ++ closing ∷ []) is.spelled in
+    sym (join_with_byte-slice_split closing rest) ∙ ap (join_with_byte closing) e ∙ ap (λ (l : List ℕ). l ++ closing ∷ []) is.spelled in
     record { spelled = inl (ap (λ (l : List ℕ). name ++ opening ∷ l) whole); formed = is.formed; new = is.new; few = is.few }
 before_end_is name rest (inside ∷ [] ∷ other ∷ more) ps e h = absurd cc
 before_end_is name rest (inside ∷ (b ∷ bytes) ∷ more) ps e h = absurd cc
@@ -422,14 +390,12 @@ text_from_pieces text (name ∷ pieces) s e h =
             let state : State = record { name = with_namespace name; properties = sorted_properties ps } in
             let same : state ≡ s = ap (λ (r : Result State TextFault). result_unwrap_or r state) h in
             subst (λ (t : State). IsStateText text t) same (record {
-              name = name;
-              listed = ps;
-              spelled = elim all.spelled [ inl f ↦ inl (joined ∙ f) | inr f ↦ inr (joined ∙ f) ];
-              named = refl;
-              sorted = refl;
-              distinct = all.new;
-              formed = all.formed;
               valid = record { named = named; formed = formed_sorted ps all.few all.formed };
+              name = name;
+              named = refl;
+              listed = ps;
+              order = sorted-IsPermutation [] ps all.new;
+              spelled = elim all.spelled [ inl f ↦ inl (joined ∙ f) | inr f ↦ inr (joined ∙ f) ];
             })
       ] refl h
     ] refl h
@@ -438,30 +404,23 @@ text_from_pieces text (name ∷ pieces) s e h =
 pub text_from_read : (text : List ℕ) (s : State) → state_reading text ≡ Ok s → IsStateText text s
 text_from_read text s h = text_from_pieces text (cut_at opening text) s refl h
 
--- ---- sorting
-
--- sorting properties of distinct keys moves them
-pub sorted-IsPermutation : (earlier ps : Pairs) → is_each_key_new earlier ps ≡ true → IsPermutation ps (sorted_properties ps)
-sorted-IsPermutation earlier [] new = IsPermutation-refl []
-sorted-IsPermutation earlier (p ∷ ps) new =
-    let news = and_parts (not (has_key earlier p.0)) (is_each_key_new (earlier ++ p ∷ []) ps) new in
-    let own : has_key (p ∷ []) p.0 ≡ true = or_left _ _ ((bytes_eq-Decides p.0 p.0).1 refl) in
-    let has : has_key (earlier ++ p ∷ []) p.0 ≡ true = list_any-append (λ q. bytes_eq q.0 p.0) earlier (p ∷ []) ∙ or_right _ _ own in
-    sorted_more p ps (found_new (earlier ++ p ∷ []) ps p.0 has news.1) (sorted-IsPermutation (earlier ++ p ∷ []) ps news.1)
-
 -- ---- faults
 
 -- a text has no fault exactly where it stands for a state
 pub no_fault : (text : List ℕ) → (state_text_fault text ≡ None) ↔ IsSomeStateText text
-no_fault text =
-    (λ none. elim (state_reading text) as (λ (r : Result State TextFault). state_reading text ≡ r → result_err r ≡ None → IsSomeStateText text) [
-        | Ok s ↦ λ e n. record { state = s; is = text_from_read text s e }
-        | Err fault ↦ λ e n. absurd cc
-      ] refl none, λ some. ap result_err (read_from_text text some.state some.is))
+no_fault text = (
+  λ none. elim (state_reading text) as (λ (r : Result State TextFault). state_reading text ≡ r → result_err r ≡ None → IsSomeStateText text) [
+    | Ok s ↦ λ e n. record { state = s; is = text_from_read text s e }
+    | Err fault ↦ λ e n. absurd cc
+  ] refl none,
+  λ some. ap result_err (read_from_text text some.state some.is),
+)
 
 pub state_read : (text : List ℕ) (s : State) → (state_of_text text ≡ Some s) ↔ IsStateText text s
-state_read text s =
-    (λ e. text_from_read text s (elim (state_reading text) as (λ (r : Result State TextFault). result_ok r ≡ Some s → r ≡ Ok s) [
-        | Ok t ↦ λ f. ap Ok (ap (λ (o : Option State). unwrap_or o s) f)
-        | Err fault ↦ λ f. absurd cc
-      ] e), λ is. ap result_ok (read_from_text text s is))
+state_read text s = (
+  λ e. text_from_read text s (elim (state_reading text) as (λ (r : Result State TextFault). result_ok r ≡ Some s → r ≡ Ok s) [
+    | Ok t ↦ λ f. ap Ok (ap (λ (o : Option State). unwrap_or o s) f)
+    | Err fault ↦ λ f. absurd cc
+  ] e),
+  λ is. ap result_ok (read_from_text text s is),
+)

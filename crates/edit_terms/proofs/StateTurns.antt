@@ -1,15 +1,15 @@
 -- States are turned and flipped as `IsTurning` asks. Two rows of turns and flips make the same of every state where
 -- they make the same of each word that a table lists, which is shown by computing: other words stay.
-use Rattle.std.proofs.Common.{◌≡◌, ℕ, ◌≤◌, Bool, true, false, not, ◌&&◌, ◌||◌, cond, List, [], ◌∷◌, length, map, refl, sym, ap, ◌∙◌, subst, arith}
+use Rattle.std.proofs.Common.{◌≡◌, ℕ, ◌≤◌, Bool, true, false, ◌&&◌, ◌||◌, cond, List, [], ◌∷◌, length, map, refl, sym, ap, ◌∙◌, subst, arith}
 use Rattle.std.specs.Prelude.{codes, bytes_eq}
 use Rattle.std.specs.List.{list_all, list_any}
-use Rattle.std.proofs.lemmas.Bool.{and_parts, and_from, or_parts, both_ways}
+use Rattle.std.proofs.lemmas.Bool.{and_parts, and_from, both_ways}
 use Rattle.std.proofs.lemmas.List.{length-map}
 use Rattle.std.proofs.lemmas.Slice.Eq.{bytes_eq-Decides}
 use Rattle.edit_terms.specs.declared.direction.Direction.{Direction}
 use Rattle.edit_terms.specs.declared.direction.Direction.TheVariants.{North, South, East, West, Up, Down}
-use Rattle.edit_terms.specs.StateText.{State, IsState, is_property_word, is_property, is_properties, sorted_properties}
-use Rattle.edit_terms.specs.Transform.{Words, by_words, decimals, TurnTable, times, quarter_table, x_table, y_table, z_table, flip_table, turned_value, turned_property, turned_by, quarter_turned_state, flipped_state}
+use Rattle.edit_terms.specs.StateText.{State, IsState, is_property_word, is_property, sorted_properties}
+use Rattle.edit_terms.specs.Transform.{Words, by_words, decimals, TurnTable, quarter_table, x_table, y_table, z_table, flip_table, turned_value, turned_property, turned_by, quarter_turned_state, flipped_state}
 use Rattle.edit_terms.proofs.PropertyLemmas.{Pairs, IsKeyed, IsFormed, formed, formed_sorted, sorted_rising, sorted-map-sorted}
 use Rattle.edit_terms.proofs.TurnLemmas.{IsTurning}
 
@@ -106,9 +106,9 @@ told_alike word none t is key =
   where
     other : (k : List ℕ) → is_word_of sides k ≡ true → bytes_eq word k ≡ false
     other k side = elim (bytes_eq word k) as (λ b. bytes_eq word k ≡ b → b ≡ false) [
-        | true ↦ λ e. absurd (both_ways (is_word_of sides word) none (subst (λ x. is_word_of sides x ≡ true) (sym ((bytes_eq-Decides word k).0 e)) side))
-        | false ↦ λ e. refl
-      ] refl
+      | true ↦ λ e. absurd (both_ways (is_word_of sides word) none (subst (λ x. is_word_of sides x ≡ true) (sym ((bytes_eq-Decides word k).0 e)) side))
+      | false ↦ λ e. refl
+    ] refl
 
 -- the last table first
 abbrev pub through_tables : List TurnTable → List ℕ × List ℕ → List ℕ × List ℕ
@@ -145,19 +145,19 @@ through_tables_is (t ∷ ts) h p =
     ∙ λ i. (by_words t.keys key, (step (told_through (codes "facing") refl ts h.1 p.0) (told_through (codes "axis") refl ts h.1 p.0) (told_through (codes "rotation") refl ts h.1 p.0)) i)
   where
     in_case : (a b c : Bool) →
-      cond a (by_words t.facing (cond a (through (map (λ t. t.facing) ts) p.1) (cond b (through (map (λ t. t.axis) ts) p.1) (cond c (through (map (λ t. t.rotation) ts) p.1) p.1))))
-      (cond b (by_words t.axis (cond a (through (map (λ t. t.facing) ts) p.1) (cond b (through (map (λ t. t.axis) ts) p.1) (cond c (through (map (λ t. t.rotation) ts) p.1) p.1))))
-      (cond c (by_words t.rotation (cond a (through (map (λ t. t.facing) ts) p.1) (cond b (through (map (λ t. t.axis) ts) p.1) (cond c (through (map (λ t. t.rotation) ts) p.1) p.1))))
-      (cond a (through (map (λ t. t.facing) ts) p.1) (cond b (through (map (λ t. t.axis) ts) p.1) (cond c (through (map (λ t. t.rotation) ts) p.1) p.1)))))
-      ≡ cond a (by_words t.facing (through (map (λ t. t.facing) ts) p.1)) (cond b (by_words t.axis (through (map (λ t. t.axis) ts) p.1)) (cond c (by_words t.rotation (through (map (λ t. t.rotation) ts) p.1)) p.1))
+        cond a (by_words t.facing (cond a (through (map (λ t. t.facing) ts) p.1) (cond b (through (map (λ t. t.axis) ts) p.1) (cond c (through (map (λ t. t.rotation) ts) p.1) p.1))))
+        (cond b (by_words t.axis (cond a (through (map (λ t. t.facing) ts) p.1) (cond b (through (map (λ t. t.axis) ts) p.1) (cond c (through (map (λ t. t.rotation) ts) p.1) p.1))))
+        (cond c (by_words t.rotation (cond a (through (map (λ t. t.facing) ts) p.1) (cond b (through (map (λ t. t.axis) ts) p.1) (cond c (through (map (λ t. t.rotation) ts) p.1) p.1))))
+        (cond a (through (map (λ t. t.facing) ts) p.1) (cond b (through (map (λ t. t.axis) ts) p.1) (cond c (through (map (λ t. t.rotation) ts) p.1) p.1)))))
+        ≡ cond a (by_words t.facing (through (map (λ t. t.facing) ts) p.1)) (cond b (by_words t.axis (through (map (λ t. t.axis) ts) p.1)) (cond c (by_words t.rotation (through (map (λ t. t.rotation) ts) p.1)) p.1))
     in_case true b c = refl
     in_case false true c = refl
     in_case false false true = refl
     in_case false false false = refl
 
     step : {a b c : Bool} → a ≡ bytes_eq (codes "facing") p.0 → b ≡ bytes_eq (codes "axis") p.0 → c ≡ bytes_eq (codes "rotation") p.0 →
-      cond a (by_words t.facing (value_through ts p.0 p.1)) (cond b (by_words t.axis (value_through ts p.0 p.1)) (cond c (by_words t.rotation (value_through ts p.0 p.1)) (value_through ts p.0 p.1)))
-      ≡ value_through (t ∷ ts) p.0 p.1
+        cond a (by_words t.facing (value_through ts p.0 p.1)) (cond b (by_words t.axis (value_through ts p.0 p.1)) (cond c (by_words t.rotation (value_through ts p.0 p.1)) (value_through ts p.0 p.1)))
+        ≡ value_through (t ∷ ts) p.0 p.1
     step e f g =
         (λ i. cond (e i) (by_words t.facing (value_through ts p.0 p.1)) (cond (f i) (by_words t.axis (value_through ts p.0 p.1)) (cond (g i) (by_words t.rotation (value_through ts p.0 p.1)) (value_through ts p.0 p.1))))
         ∙ in_case (bytes_eq (codes "facing") p.0) (bytes_eq (codes "axis") p.0) (bytes_eq (codes "rotation") p.0)
@@ -248,7 +248,12 @@ state_stays t is s h =
 
 quarter_is : IsTable quarter_table
 quarter_is = record {
-  covered = refl; stays = refl; facing = refl; axis = refl; rotation = refl; keys = refl;
+  covered = refl;
+  stays = refl;
+  facing = refl;
+  axis = refl;
+  rotation = refl;
+  keys = refl;
   keyed = record {
     key = by_words quarter_table.keys;
     value = turned_value quarter_table;

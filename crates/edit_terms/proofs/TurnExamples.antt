@@ -1,14 +1,13 @@
 -- Worked examples of turns and flips, each by computation: the rows of the turn table, a state, a position, a copy.
-use Rattle.std.proofs.Common.{◌≡◌, ℕ, true, false, refl, List, [], ◌∷◌, map, Option, Some, None, pos, negsuc}
+use Rattle.std.proofs.Common.{◌≡◌, ℕ, false, refl, List, [], ◌∷◌, map, Some, None, pos, negsuc}
 use Rattle.std.specs.Prelude.{codes}
-use Rattle.edit_terms.specs.declared.pos.Pos.{Pos}
 use Rattle.edit_terms.specs.declared.region.Kind.TheVariants.{Sphere}
 use Rattle.edit_terms.specs.declared.clip.Clip.{Clip}
-use Rattle.edit_terms.specs.declared.direction.Direction.TheVariants.{West, Up}
+use Rattle.edit_terms.specs.declared.direction.Direction.TheVariants.{West}
 use Rattle.edit_terms.specs.Area.{Area}
 use Rattle.edit_terms.specs.StateText.{State, air}
 use Rattle.edit_terms.specs.World.{World, without_entity}
-use Rattle.edit_terms.specs.Transform.{Words, decimals, turned_property, quarter_table, x_table, y_table, z_table, quarter_turned_position, flipped_position, turned_state, then_flip}
+use Rattle.edit_terms.specs.Transform.{Words, decimals, turned_property, quarter_table, x_table, y_table, z_table, quarter_turned_position, flipped_position, turned_state}
 use Rattle.edit_terms.specs.Clipboard.{clip_box_of, clipboard_of}
 
 -- the values of a key and what a table makes of them
@@ -97,10 +96,10 @@ abbrev garden : World
 garden = record {
   area = record { least = record { x = pos 0; y = pos 0; z = pos 0 }; width = 4; height = 1; length = 4 };
   contents = map without_entity (
-    air ∷ air ∷ air ∷ air
-    ∷ air ∷ block (codes "minecraft:gold_block") ∷ log (codes "x") ∷ air
-    ∷ air ∷ air ∷ block (codes "minecraft:stone") ∷ stairs (codes "east")
-    ∷ air ∷ air ∷ air ∷ air ∷ []);
+      air ∷ air ∷ air ∷ air
+      ∷ air ∷ block (codes "minecraft:gold_block") ∷ log (codes "x") ∷ air
+      ∷ air ∷ air ∷ block (codes "minecraft:stone") ∷ stairs (codes "east")
+      ∷ air ∷ air ∷ air ∷ air ∷ []);
 }
 
 -- the world has the one layer of the frame

@@ -1,6 +1,6 @@
 -- A clipboard: the blocks of a selection as they stood when they were copied, at positions relative to a
 -- placement position, turned.
-use Rattle.std.specs.Prelude.{◌≡◌, ℕ, ◌+◌, Bool, true, false, ◌==◌, ◌&&◌, if◌then◌else◌, ℤ, pos, ◌+ℤ◌, ◌-ℤ◌, neg_ℤ, Option, Some, None}
+use Rattle.std.specs.Prelude.{◌≡◌, ℕ, Bool, true, false, ◌==◌, ◌&&◌, if◌then◌else◌, ℤ, pos, ◌+ℤ◌, ◌-ℤ◌, neg_ℤ, Option, Some, None}
 use Rattle.std.specs.Int.{int_max, int_min, int_gap, int_rem_euclid}
 use Rattle.std.specs.Option.{option_map_or, unwrap_or}
 use Rattle.edit_terms.specs.declared.pos.Pos.{Pos}

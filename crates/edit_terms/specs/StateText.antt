@@ -1,6 +1,6 @@
 -- Which bytes are block names, property keys and property values, what contracts see of a block state, and
 -- which text stands for which state (the text form of block states of Sponge Schematic Specification 2).
-use Rattle.std.specs.Prelude.{◌≡◌, ℕ, ◌+◌, Bool, true, false, ◌&&◌, ◌||◌, ◌==◌, not, nat_le, nat_lt, if◌then◌else◌, ◌⊎◌, List, [], ◌∷◌, ◌++◌, length, take, drop, map, Option, Some, None, is_some, option_map, Result, Ok, Err, position, codes, bytes_eq}
+use Rattle.std.specs.Prelude.{◌≡◌, ℕ, ◌+◌, Bool, true, false, ◌&&◌, ◌||◌, ◌==◌, not, nat_le, nat_lt, if◌then◌else◌, ◌⊎◌, List, [], ◌∷◌, ◌++◌, length, take, drop, map, Option, Some, None, is_some, option_map, Result, Ok, Err, position, codes, bytes_eq, IsPermutation}
 use Rattle.std.specs.List.{list_all, list_any, find, slice_split, join_with_byte}
 use Rattle.std.specs.FinMap.Entries.{put}
 use Rattle.std.specs.Result.{result_ok, result_err}
@@ -137,17 +137,15 @@ written_properties (p ∷ ps) = in_brackets (p ∷ ps)
 abbrev pub written_state : State → List ℕ
 written_state s = s.name ++ written_properties s.properties
 
--- A text stands for a state: a name, which may lack the namespace minecraft, and the state's properties in any
--- order, each key once; where there are none, empty brackets or no brackets.
+-- A text stands for a state: the state's name, which may lack the namespace minecraft, and its properties in any
+-- order; where there are none, empty brackets or no brackets.
 pub record IsStateText (text : List ℕ) (s : State) : Type 0 where
-  pub name : List ℕ
-  pub listed : List (List ℕ × List ℕ)
-  pub spelled : (text ≡ name ++ in_brackets listed) ⊎ (text ≡ name ++ written_properties listed)
-  pub named : s.name ≡ with_namespace name
-  pub sorted : s.properties ≡ sorted_properties listed
-  pub distinct : is_each_key_new [] listed ≡ true
-  pub formed : list_all is_property listed ≡ true
   pub valid : IsState s
+  pub name : List ℕ
+  pub named : with_namespace name ≡ s.name
+  pub listed : List (List ℕ × List ℕ)
+  pub order : IsPermutation listed s.properties
+  pub spelled : (text ≡ name ++ in_brackets listed) ⊎ (text ≡ name ++ written_properties listed)
 
 -- a text that stands for some state
 pub record IsSomeStateText (text : List ℕ) : Type 0 where
@@ -177,9 +175,9 @@ judged earlier _ = Err BadProperty
 abbrev pub listed_behind : List (List ℕ × List ℕ) → List (List ℕ) → Result (List (List ℕ × List ℕ)) TextFault
 listed_behind earlier [] = Ok earlier
 listed_behind earlier (piece ∷ pieces) = elim (judged earlier (cut_at equals piece)) [
-    | Ok p ↦ listed_behind (earlier ++ p ∷ []) pieces
-    | Err fault ↦ Err fault
-  ]
+  | Ok p ↦ listed_behind (earlier ++ p ∷ []) pieces
+  | Err fault ↦ Err fault
+]
 
 -- the properties of the text between brackets; there may be none
 abbrev pub listed_inside : List ℕ → Result (List (List ℕ × List ℕ)) TextFault

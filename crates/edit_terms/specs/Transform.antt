@@ -1,5 +1,5 @@
 -- Turns and flips of a clipboard: of its relative positions and of the states that stand there.
-use Rattle.std.specs.Prelude.{ℕ, zero, suc, ◌+◌, ◌-◌, ◌%◌, Bool, not, if◌then◌else◌, List, [], ◌∷◌, map, get_or, neg_ℤ, codes, bytes_eq}
+use Rattle.std.specs.Prelude.{ℕ, zero, suc, ◌+◌, ◌-◌, ◌%◌, not, if◌then◌else◌, List, [], ◌∷◌, map, get_or, neg_ℤ, codes, bytes_eq}
 use Rattle.std.specs.List.{range_with_len}
 use Rattle.edit_terms.specs.declared.pos.Pos.{Pos}
 use Rattle.edit_terms.specs.declared.direction.Direction.{Direction}

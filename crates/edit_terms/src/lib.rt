@@ -50,7 +50,8 @@ pub use memory::Memory;
 pub use outcome::{Outcome, Reply};
 pub use pattern::{Entry, Pattern, Value};
 pub use pattern_laws::{
-    boxes_of_a_clipboard, clipboard_cells_lie_in_its_bounds, some_entry_is_chosen, the_only_entry_is_chosen,
+    boxes_of_a_clipboard, clipboard_cells_lie_in_its_bounds, some_entry_is_chosen,
+    the_only_entry_is_chosen,
 };
 pub use pos::Pos;
 pub use properties::Properties;
