@@ -19,7 +19,7 @@ use Rattle.edit_terms.specs.declared.region.Region.{Region}
 use Rattle.edit_terms.specs.declared.region.Region.TheVariants.{Selected, Walls, Faces, Ball, Tube}
 use Rattle.edit_terms.specs.Area.{Area, is_from, holds}
 use Rattle.edit_terms.specs.Region.{is_between, flat_distance, distance, is_in_shape, is_in_reach, is_in_ball, is_in_tube, is_at_edge, is_selected, is_in_whole, IsPartOfWhole}
-use Rattle.edit_terms.specs.Frame.{count_between, with_digit, root_from, root, IsRoot, disc_frame, ball_frame, shape_frame, frame_of, IsPosition, IsSelection, IsRegion, IsFramed, count_up_to, common_count, common_box}
+use Rattle.edit_terms.specs.Frame.{count_between, with_digit, root_from, root, IsRoot, disc_frame, ball_frame, shape_frame, frame_of, IsPosition, IsSelection, IsRegion, IsFramed, common_count, common_box}
 use Rattle.edit_terms.specs.Neighbour.{neighbour, horizontal, directions}
 use Rattle.edit_terms.proofs.AreaLemmas.{and_both}
 

@@ -63,7 +63,7 @@ abbrev pub frame_of_selection : Selection → Area
 frame_of_selection s = shape_frame s.kind s.first s.second
 
 -- The bounding box of a region; walls, faces and hollow shapes have that of the whole shape. It may reach
--- beyond the map, and that of a sphere or cylinder may be one that the shape doesn't fill.
+-- beyond the map.
 abbrev pub frame_of : Region → Area
 frame_of (Selected s) = frame_of_selection s
 frame_of (Walls s) = frame_of_selection s

@@ -30,5 +30,4 @@ pub fn region_in_frame()
 #[tactic(auto, using(crate::proofs::RegionLemmas::in_common_box))]
 pub fn box_in_common()
     ensures { (a b : Area) (p : Pos) → holds (common_box a b) p ≡ (holds a p && holds b p) }
-{
-}
+{}
