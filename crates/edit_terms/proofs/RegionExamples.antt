@@ -7,7 +7,8 @@ use Rattle.edit_terms.specs.declared.region.Selection.{Selection}
 use Rattle.edit_terms.specs.declared.region.Region.{Region}
 use Rattle.edit_terms.specs.declared.region.Region.TheVariants.{Selected, Walls, Faces, Ball, Tube}
 use Rattle.edit_terms.specs.Area.{Area, volume, position_of}
-use Rattle.edit_terms.specs.Region.{is_inside, frame_of, root}
+use Rattle.edit_terms.specs.Region.{is_inside}
+use Rattle.edit_terms.specs.Frame.{frame_of, root, common_box}
 
 -- how many positions of a box belong to a region
 abbrev blocks : Area → Region → ℕ
@@ -32,8 +33,8 @@ tube hollow = Tube origin 1 2 hollow
 abbrev cube : Selection
 cube = record { kind = Cuboid; first = origin; second = corner }
 
-balls_of_radius_0_to_2 : size (ball 0 false) ≡ 1 × size (ball 1 false) ≡ 19 × size (ball 2 false) ≡ 81
-balls_of_radius_0_to_2 = (refl, refl, refl)
+balls_of_radius_0_to_3 : size (ball 0 false) ≡ 1 × size (ball 1 false) ≡ 19 × size (ball 2 false) ≡ 81 × size (ball 3 false) ≡ 179
+balls_of_radius_0_to_3 = (refl, refl, refl, refl)
 
 hollow_balls_of_radius_0_and_1 : size (ball 0 true) ≡ 1 × size (ball 1 true) ≡ 18
 hollow_balls_of_radius_0_and_1 = (refl, refl)
@@ -54,3 +55,7 @@ frame_of_a_sphere : frame_of (Selected (record { kind = Sphere; first = origin; 
     ≡ record { least = record { x = negsuc 2; y = negsuc 2; z = negsuc 2 }; width = 7; height = 7; length = 7 }
 unfolding root
 frame_of_a_sphere = refl
+
+-- the part of a ball's frame in the box 4,4,4 whose least corner is the centre
+frame_cut_by_a_box : common_box (frame_of (ball 1 true)) (record { least = origin; width = 4; height = 4; length = 4 }) ≡ record { least = origin; width = 2; height = 2; length = 2 }
+frame_cut_by_a_box = refl

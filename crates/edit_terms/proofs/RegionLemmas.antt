@@ -4,7 +4,7 @@
 -- and a bound on it puts the coordinate between the ends of the frame.
 use Rattle.std.proofs.Common.{◌≡◌, ℕ, zero, suc, ◌+◌, ◌*◌, ◌^◌, ◌<◌, ◌≤◌, Bool, true, false, inl, inr, cond, ◌&&◌, List, ℤ, pos, negsuc, ◌-ℤ◌, ◌*ℤ◌, refl, subst, arith, leb}
 use Rattle.std.specs.Prelude.{nat_abs, int_le, not, FitsSigned}
-use Rattle.std.specs.Int.{w32, int_min}
+use Rattle.std.specs.Int.{w32, int_min, int_max}
 use Rattle.std.specs.List.{list_all}
 use Rattle.std.specs.Cmp.Derive.{both_true}
 use Rattle.std.proofs.lemmas.Bool.{leb-true, leb-false, cases_lt}
@@ -17,8 +17,9 @@ use Rattle.edit_terms.specs.declared.region.Kind.TheVariants.{Cuboid, Sphere, Cy
 use Rattle.edit_terms.specs.declared.region.Selection.{Selection}
 use Rattle.edit_terms.specs.declared.region.Region.{Region}
 use Rattle.edit_terms.specs.declared.region.Region.TheVariants.{Selected, Walls, Faces, Ball, Tube}
-use Rattle.edit_terms.specs.Area.{is_from, holds}
-use Rattle.edit_terms.specs.Region.{is_between, count_between, flat_distance, distance, is_in_shape, is_in_reach, is_in_ball, is_in_tube, is_at_edge, is_selected, is_in_whole, with_digit, root_from, root, IsRoot, disc_frame, ball_frame, shape_frame, frame_of, IsPartOfWhole, IsPosition, IsSelection, IsRegion, IsFramed}
+use Rattle.edit_terms.specs.Area.{Area, is_from, holds}
+use Rattle.edit_terms.specs.Region.{is_between, flat_distance, distance, is_in_shape, is_in_reach, is_in_ball, is_in_tube, is_at_edge, is_selected, is_in_whole, IsPartOfWhole}
+use Rattle.edit_terms.specs.Frame.{count_between, with_digit, root_from, root, IsRoot, disc_frame, ball_frame, shape_frame, frame_of, IsPosition, IsSelection, IsRegion, IsFramed, common_count, common_box}
 use Rattle.edit_terms.specs.Neighbour.{neighbour, horizontal, directions}
 use Rattle.edit_terms.proofs.AreaLemmas.{and_both}
 
@@ -182,3 +183,17 @@ whole_framed (Tube centre radius height hollow) is p h = tube_framed centre radi
 
 pub framed : (region : Region) → IsRegion region → IsFramed region
 framed region is p h = whole_framed region is p (part_of_whole region p h)
+
+-- a coordinate is among both rows of numbers exactly where it is in their common row
+common_row : (a : ℤ) (m : ℕ) (b : ℤ) (n : ℕ) (v : ℤ) → is_from (int_max a b) (common_count a m b n) v ≡ (is_from a m v && is_from b n v)
+common_row a m b n v = grind (arith, ints)
+
+-- tests axis by axis and box by box are the same six tests
+axes_of_two : (ax ay az bx by bz : Bool) → (ax && bx && (ay && by) && (az && bz)) ≡ (ax && ay && az && (bx && by && bz))
+axes_of_two ax ay az bx by bz = grind arith
+
+-- the positions of the common box are those of both
+pub in_common_box : (a b : Area) (p : Pos) → holds (common_box a b) p ≡ (holds a p && holds b p)
+in_common_box a b p =
+    rw (common_row a.least.x a.width b.least.x b.width p.x, common_row a.least.y a.height b.least.y b.height p.y, common_row a.least.z a.length b.least.z b.length p.z)
+    (axes_of_two (is_from a.least.x a.width p.x) (is_from a.least.y a.height p.y) (is_from a.least.z a.length p.z) (is_from b.least.x b.width p.x) (is_from b.least.y b.height p.y) (is_from b.least.z b.length p.z))

@@ -7,6 +7,7 @@ pub mod Grid
 pub mod Neighbour
 pub mod CellList
 pub mod Region
+pub mod Frame
 pub mod Draw
 pub mod Transform
 pub mod Clipboard

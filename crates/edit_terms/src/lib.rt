@@ -57,7 +57,7 @@ pub use pos::Pos;
 pub use properties::Properties;
 pub use random::random_word;
 pub use region::{Kind, Region, Selection};
-pub use region_laws::{region_in_frame, region_in_whole, root_is_greatest};
+pub use region_laws::{box_in_common, region_in_frame, region_in_whole, root_is_greatest};
 pub use script::{Case, Command, Line, Script};
 pub use state_laws::{
     one_state_a_text, replacing_properties, sorting_properties, states_and_faults, written_form,

@@ -1,7 +1,10 @@
 //! Laws of regions, each the clause of a function that does nothing.
 
-ghost use Rattle.std.specs.Prelude.{ℕ, ◌^◌, ◌<◌};
-ghost use Rattle.edit_terms.specs.Region.{root, IsRoot, IsPartOfWhole, IsRegion, IsFramed};
+ghost use Rattle.std.specs.Prelude.{◌≡◌, ℕ, ◌^◌, ◌<◌, ◌&&◌};
+ghost use Rattle.edit_terms.specs.Region.{IsPartOfWhole};
+ghost use Rattle.edit_terms.specs.Frame.{root, IsRoot, IsRegion, IsFramed, common_box};
+ghost use Rattle.edit_terms.specs.Area.{Area, holds};
+ghost use Rattle.edit_terms.specs.declared.pos.Pos.{Pos};
 ghost use Rattle.edit_terms.specs.declared.region.Region.{Region};
 
 /// The root by which the frames of sphere and cylinder selections are measured is the greatest whole
@@ -21,4 +24,10 @@ pub fn region_in_whole()
 #[tactic(auto, using(crate::proofs::RegionLemmas::framed))]
 pub fn region_in_frame()
     ensures { (region : Region) → IsRegion region → IsFramed region }
+{}
+
+/// The box that two boxes have in common has exactly the positions of both.
+#[tactic(auto, using(crate::proofs::RegionLemmas::in_common_box))]
+pub fn box_in_common()
+    ensures { (a b : Area) (p : Pos) → holds (common_box a b) p ≡ (holds a p && holds b p) }
 {}

@@ -62,6 +62,9 @@ fn is_that_mask(mask: &Mask, stairs: &BlockState) -> bool {
         && matches!(&fifth.leaf, Leaf::InSelection)
 }
 
+/// Takes what threads may share.
+fn is_for_threads<T: Send + Sync>(_value: &T) {}
+
 #[test]
 fn copied_masks(rt: HostRuntime) -> Result<(), Fail> {
     let alloc = rt.alloc();
@@ -72,6 +75,7 @@ fn copied_masks(rt: HostRuntime) -> Result<(), Fail> {
     let shared = Mask {
         terms: mask(alloc)?.terms.share(alloc)?.share(alloc)?,
     };
+    is_for_threads(&shared);
     for mask in [&own, &copied, &copied_again, &shared] {
         assert!(rt; is_that_mask(mask, &stairs));
     }
@@ -92,6 +96,7 @@ fn copied_patterns(rt: HostRuntime) -> Result<(), Fail> {
     };
     let copied = own.copy(alloc)?;
     let copied_again = copied.copy(alloc)?;
+    is_for_threads(&copied);
     for pattern in [&own, &copied, &copied_again] {
         let [entry] = pattern.entries.as_slice() else {
             return Err("one entry".into());
