@@ -48,10 +48,11 @@ fn set_of_long_name(alloc: Global, start: &str, more: usize) -> Result<Vec<u8>, 
 fn shown_pattern(alloc: Global, pattern: &Pattern) -> Result<String, AllocError> {
     let mut text = String::new(alloc);
     for entry in pattern.entries.as_slice() {
-        let Value::Fixed(state) = &entry.value;
-        let name = str::from_utf8(state.name()).unwrap_or("no text");
-        let count = state.properties().as_slice().len();
-        text.push_str(&format!(in alloc; " {} of {name} with {count}", entry.weight)?)?;
+        if let Value::Fixed(state) = &entry.value {
+            let name = str::from_utf8(state.name()).unwrap_or("no text");
+            let count = state.properties().as_slice().len();
+            text.push_str(&format!(in alloc; " {} of {name} with {count}", entry.weight)?)?;
+        }
     }
     Ok(text)
 }
@@ -67,6 +68,7 @@ fn shown(alloc: Global, line: &Line) -> Result<String, AllocError> {
         Command::Set { pattern } => {
             format!(in alloc; "{}: set{}", line.number, shown_pattern(alloc, pattern)?)
         }
+        _ => format!(in alloc; "{}: other", line.number),
     }
 }
 

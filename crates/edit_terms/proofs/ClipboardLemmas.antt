@@ -1,8 +1,7 @@
--- The cells of a clipboard lie in its bounds: what lies in two boxes lies in their overlap, and turns and flips of a
--- box and of its positions go together.
+-- The cells of a clipboard lie in its bounds: what lies in two boxes lies in the box they have in common, and turns and
+-- flips of a box and of its positions go together.
 use Rattle.std.proofs.Common.{◌≡◌, ℕ, zero, suc, ◌-◌, ◌*◌, ◌%◌, ◌<◌, Bool, true, false, ◌&&◌, cond, ℤ, pos, negsuc, ◌+ℤ◌, ◌-ℤ◌, ◌≤ℤ◌, ◌<ℤ◌, Some, None, refl, sym, ap, ◌∙◌, subst, arith}
 use Rattle.std.specs.Prelude.{⊤, neg_ℤ, int_le, int_lt, ◌==◌, is_some}
-use Rattle.std.specs.Int.{int_max, int_min, int_gap}
 use Rattle.std.specs.Option.{option_map_or}
 use Rattle.std.proofs.lemmas.Bool.{and_parts, and_from, ne_eqb}
 use Rattle.std.proofs.lemmas.Int.{ints, clamps}
@@ -13,20 +12,17 @@ use Rattle.edit_terms.specs.declared.direction.Direction.TheVariants.{North, Sou
 use Rattle.edit_terms.specs.declared.transform.Transform.{Transform}
 use Rattle.edit_terms.specs.declared.clip.Clip.{Clip}
 use Rattle.edit_terms.specs.Area.{Area, is_from, holds, volume}
+use Rattle.edit_terms.specs.declared.region.Region.TheVariants.{Selected}
 use Rattle.edit_terms.specs.Region.{is_selected}
+use Rattle.edit_terms.specs.Frame.{frame_of_selection, common_box, IsSelection}
 use Rattle.edit_terms.specs.World.{World, content_at}
 use Rattle.edit_terms.specs.Transform.{times, undone, quarter_turned_position, flipped_position, turned_position, source_position, turned_content}
-use Rattle.edit_terms.specs.Clipboard.{shared_size, overlap, relative_to, placed_at, mirrored, quarter_turned_area, flipped_area, turned_area, clip_box_of, copied_from, copied_content, clipboard_of, Encloses, is_in_bounds, tile_coordinate, tile_of}
+use Rattle.edit_terms.specs.Clipboard.{relative_to, placed_at, mirrored, quarter_turned_area, flipped_area, turned_area, clip_box_of, copied_from, copied_content, clipboard_of, is_in_bounds, tile_coordinate, tile_of}
+use Rattle.edit_terms.proofs.RegionLemmas.{framed, in_common_box}
 use Rattle.edit_terms.proofs.TurnLemmas.{IsTurning, transformed-undone, undone-transformed}
 use Rattle.edit_terms.proofs.PositionTurns.{position_turning}
 
 -- ---- one coordinate
-
-gap_is : (a b : ℤ) → a ≤ℤ b → a +ℤ pos (int_gap a b) ≡ b
-gap_is (pos a) (pos b) h = omega (arith, ints, h)
-gap_is (pos a) (negsuc b) h = absurd (omega (arith, ints, h))
-gap_is (negsuc a) (pos b) h = omega (arith, ints, h)
-gap_is (negsuc a) (negsuc b) h = omega (arith, ints, h)
 
 -- a coordinate that is one of the size from low on
 record IsFrom (low : ℤ) (size : ℕ) (v : ℤ) : Type 0 where
@@ -44,17 +40,6 @@ test_from low size v g h =
     let from : int_le low v ≡ true = grind (arith, ints) in
     let below : int_lt v (low +ℤ pos size) ≡ true = grind (arith, ints) in
     and_from (int_le low v) (int_lt v (low +ℤ pos size)) from below
-
-in_both : (low : ℤ) (size : ℕ) (first : ℤ) (count : ℕ) (v : ℤ) → is_from low size v ≡ true → is_from first count v ≡ true → is_from (int_max low first) (shared_size low size first count) v ≡ true
-in_both low size first count v g h =
-    let a = from_test low size v g in
-    let b = from_test first count v h in
-    let a0 = a.from in let a1 = a.below in let b0 = b.from in let b1 = b.below in
-    let start : int_max low first ≤ℤ v = omega (arith, ints, clamps, a0, b0) in
-    let end : v <ℤ int_min (low +ℤ pos size) (first +ℤ pos count) = omega (arith, ints, clamps, a1, b1) in
-    let rising : int_max low first ≤ℤ int_min (low +ℤ pos size) (first +ℤ pos count) = omega (arith, ints, start, end) in
-    let gap : int_max low first +ℤ pos (shared_size low size first count) ≡ int_min (low +ℤ pos size) (first +ℤ pos count) = gap_is _ _ rising in
-    test_from (int_max low first) (shared_size low size first count) v start (subst (λ (z : ℤ). v <ℤ z) (sym gap) end)
 
 some_from : (low : ℤ) (size : ℕ) (v : ℤ) → is_from low size v ≡ true → 0 < size
 some_from low size v h = let a = from_test low size v h in let a0 = a.from in let a1 = a.below in omega (arith, ints, a0, a1)
@@ -83,11 +68,8 @@ held a p h =
     let two = and_parts (is_from a.least.x a.width p.x) (is_from a.least.y a.height p.y) first.0 in
     record { x = two.0; y = two.1; z = first.1 }
 
-in_overlap : (a b : Area) (p : Pos) → holds a p ≡ true → holds b p ≡ true → holds (overlap a b) p ≡ true
-in_overlap a b p g h =
-    let in_a = held a p g in
-    let in_b = held b p h in
-    and_from _ _ (and_from _ _ (in_both a.least.x a.width b.least.x b.width p.x in_a.x in_b.x) (in_both a.least.y a.height b.least.y b.height p.y in_a.y in_b.y)) (in_both a.least.z a.length b.least.z b.length p.z in_a.z in_b.z)
+in_common : (a b : Area) (p : Pos) → holds a p ≡ true → holds b p ≡ true → holds (common_box a b) p ≡ true
+in_common a b p g h = in_common_box a b p ∙ and_from (holds a p) (holds b p) g h
 
 some_volume : (a : Area) (p : Pos) → holds a p ≡ true → (volume a == 0) ≡ false
 some_volume a p h =
@@ -186,38 +168,6 @@ holds-turned t a r = answers_alike (holds (turned_area t a) (turned_position t r
     (subst (λ (q : Pos). holds (undone quarter_turned_area flipped_area t (turned_area t a)) q ≡ true) (undone-transformed position_turning t r tt) (held_undone t (turned_area t a) (turned_position t r) h)))
     (held_transformed t a r)
 
--- a coordinate below the end of a gap is below its upper number
-below_gap : (a b v : ℤ) → a ≤ℤ v → v <ℤ (a +ℤ pos (int_gap a b)) → v <ℤ b
-below_gap (pos a) (pos b) v g h = omega (arith, ints, g, h)
-below_gap (pos a) (negsuc b) v g h = absurd (omega (arith, ints, g, h))
-below_gap (negsuc a) (pos b) v g h = omega (arith, ints, g, h)
-below_gap (negsuc a) (negsuc b) v g h = omega (arith, ints, g, h)
-
--- one coordinate of both
-record IsInBoth (low : ℤ) (size : ℕ) (first : ℤ) (count : ℕ) (v : ℤ) : Type 0 where
-  one : is_from low size v ≡ true
-  other : is_from first count v ≡ true
-
-shared_from : (low : ℤ) (size : ℕ) (first : ℤ) (count : ℕ) (v : ℤ) → is_from (int_max low first) (shared_size low size first count) v ≡ true → IsInBoth low size first count v
-shared_from low size first count v h =
-    let a = from_test (int_max low first) (shared_size low size first count) v h in
-    let a0 = a.from in
-    let end : v <ℤ int_min (low +ℤ pos size) (first +ℤ pos count) = below_gap (int_max low first) (int_min (low +ℤ pos size) (first +ℤ pos count)) v a.from a.below in
-    record {
-      one = test_from low size v (omega (arith, ints, clamps, a0)) (omega (arith, ints, clamps, end));
-      other = test_from first count v (omega (arith, ints, clamps, a0)) (omega (arith, ints, clamps, end));
-    }
-
-pub holds-overlap : (a b : Area) (p : Pos) → holds (overlap a b) p ≡ (holds a p && holds b p)
-holds-overlap a b p = answers_alike (holds (overlap a b) p) (holds a p && holds b p)
-    (λ h.
-    let is = held (overlap a b) p h in
-    let x = shared_from a.least.x a.width b.least.x b.width p.x is.x in
-    let y = shared_from a.least.y a.height b.least.y b.height p.y is.y in
-    let z = shared_from a.least.z a.length b.least.z b.length p.z is.z in
-    and_from (holds a p) (holds b p) (and_from _ _ (and_from _ _ x.one y.one) z.one) (and_from _ _ (and_from _ _ x.other y.other) z.other))
-    (λ h. let parts = and_parts (holds a p) (holds b p) h in in_overlap a b p parts.0 parts.1)
-
 rem_from : (low : ℤ) (size : ℕ) (v : ℤ) → 0 < size → is_from low size (tile_coordinate low size v) ≡ true
 rem_from low size (pos a) some =
     let below : a % size < size = mod_below a size some in
@@ -248,25 +198,26 @@ relative_placed o r =
     λ i. record { x = x i; y = y i; z = z i }
 
 -- a relative position whose block is one of the frame's and of the world's lies in the bounds
-in_box : (frame : Area) (clip : Clip) (area : Area) (r : Pos) → holds frame (copied_from clip r) ≡ true → holds area (copied_from clip r) ≡ true → option_map_or (λ bounds. holds bounds r) (clip_box_of frame clip area) false ≡ true
-in_box frame clip area r g h =
+in_box : (clip : Clip) (area : Area) (r : Pos) → holds (frame_of_selection clip.from) (copied_from clip r) ≡ true → holds area (copied_from clip r) ≡ true → option_map_or (λ bounds. holds bounds r) (clip_box_of clip area) false ≡ true
+in_box clip area r g h =
     let p = copied_from clip r in
-    let both : holds (overlap frame area) p ≡ true = in_overlap frame area p g h in
-    let box : Area = record (overlap frame area) { least = relative_to clip.origin (overlap frame area).least } in
-    let near : holds box (relative_to clip.origin p) ≡ true = held_relative clip.origin (overlap frame area) p both in
+    let frame = frame_of_selection clip.from in
+    let both : holds (common_box frame area) p ≡ true = in_common frame area p g h in
+    let box : Area = record (common_box frame area) { least = relative_to clip.origin (common_box frame area).least } in
+    let near : holds box (relative_to clip.origin p) ≡ true = held_relative clip.origin (common_box frame area) p both in
     let source : holds box (source_position clip.transform r) ≡ true = subst (λ (q : Pos). holds box q ≡ true) (relative_placed clip.origin (source_position clip.transform r)) near in
     let turned : holds (turned_area clip.transform box) r ≡ true =
     subst (λ (q : Pos). holds (turned_area clip.transform box) q ≡ true) (transformed-undone position_turning clip.transform r tt) (held_transformed clip.transform box (source_position clip.transform r) source) in
-    ap (λ b. option_map_or (λ bounds. holds bounds r) (cond b None (Some (turned_area clip.transform box))) false) (some_volume (overlap frame area) p both) ∙ turned
+    ap (λ b. option_map_or (λ bounds. holds bounds r) (cond b None (Some (turned_area clip.transform box))) false) (some_volume (common_box frame area) p both) ∙ turned
 
 from_some : {A : Type 0} (b : Bool) (a : A) → is_some (cond b (Some a) None) ≡ true → b ≡ true
 from_some true a h = refl
 from_some false a h = h
 
 -- the cells of a clipboard lie in its bounds
-pub cells_in_bounds : (frame : Area) (clip : Clip) (w : World) → Encloses frame clip.from → (r : Pos) → is_some (copied_content clip w r) ≡ true → is_in_bounds (clipboard_of frame clip w) r ≡ true
-cells_in_bounds frame clip w encloses r some =
+pub cells_in_bounds : (clip : Clip) (w : World) → IsSelection clip.from → (r : Pos) → is_some (copied_content clip w r) ≡ true → is_in_bounds (clipboard_of clip w) r ≡ true
+cells_in_bounds clip w is r some =
     let p = copied_from clip r in
     let both = from_some (is_selected clip.from p && holds w.area p) (turned_content clip.transform (content_at w p)) some in
     let parts = and_parts (is_selected clip.from p) (holds w.area p) both in
-    in_box frame clip w.area r (encloses p parts.0) parts.1
+    in_box clip w.area r (framed (Selected clip.from) is p parts.0) parts.1

@@ -82,7 +82,7 @@ pair = record {
 }
 
 abbrev copied : CopiedBlocks
-copied = clipboard_of (record { least = place 0; width = 2; height = 1; length = 1 }) pair street
+copied = clipboard_of pair street
 
 tiles_of_two : map (λ x. (tiled copied (place x) (without_entity air)).state) (range_with_len 2 4) ≡ stone ∷ dirt ∷ stone ∷ dirt ∷ []
 tiles_of_two = refl

@@ -8,6 +8,7 @@ use Rattle.edit_terms.specs.Area.{Area}
 use Rattle.edit_terms.specs.StateText.{State, air}
 use Rattle.edit_terms.specs.World.{World, without_entity}
 use Rattle.edit_terms.specs.Transform.{Words, decimals, turned_property, quarter_table, x_table, y_table, z_table, quarter_turned_position, flipped_position, turned_state}
+use Rattle.edit_terms.specs.Frame.{root}
 use Rattle.edit_terms.specs.Clipboard.{clip_box_of, clipboard_of}
 
 -- the values of a key and what a table makes of them
@@ -78,10 +79,6 @@ turned_clip = record {
   transform = record { flip_x = false; flip_y = false; turns = 1 };
 }
 
--- its bounding box
-abbrev frame : Area
-frame = record { least = record { x = pos 1; y = negsuc 0; z = pos 1 }; width = 3; height = 3; length = 3 }
-
 abbrev block : List ℕ → State
 block name = record { name = name; properties = [] }
 
@@ -102,18 +99,19 @@ garden = record {
       ∷ air ∷ air ∷ air ∷ air ∷ []);
 }
 
--- the world has the one layer of the frame
-bounds_are_cut_by_the_world : clip_box_of frame turned_clip garden.area ≡ Some (record { least = record { x = negsuc 0; y = pos 0; z = negsuc 0 }; width = 3; height = 1; length = 3 })
+-- the world has one layer of the sphere's bounding box
+bounds_are_cut_by_the_world : clip_box_of turned_clip garden.area ≡ Some (record { least = record { x = negsuc 0; y = pos 0; z = negsuc 0 }; width = 3; height = 1; length = 3 })
+unfolding root
 bounds_are_cut_by_the_world = refl
 
-stairs_turn_with_their_place : (clipboard_of frame turned_clip garden).at (record { x = pos 0; y = pos 0; z = pos 1 }) ≡ Some (without_entity (stairs (codes "south")))
+stairs_turn_with_their_place : (clipboard_of turned_clip garden).at (record { x = pos 0; y = pos 0; z = pos 1 }) ≡ Some (without_entity (stairs (codes "south")))
 stairs_turn_with_their_place = refl
 
-log_turns_with_its_place : (clipboard_of frame turned_clip garden).at (record { x = pos 1; y = pos 0; z = pos 0 }) ≡ Some (without_entity (log (codes "z")))
+log_turns_with_its_place : (clipboard_of turned_clip garden).at (record { x = pos 1; y = pos 0; z = pos 0 }) ≡ Some (without_entity (log (codes "z")))
 log_turns_with_its_place = refl
 
-corner_is_not_copied : (clipboard_of frame turned_clip garden).at (record { x = pos 1; y = pos 0; z = negsuc 0 }) ≡ None
+corner_is_not_copied : (clipboard_of turned_clip garden).at (record { x = pos 1; y = pos 0; z = negsuc 0 }) ≡ None
 corner_is_not_copied = refl
 
-outside_is_not_copied : (clipboard_of frame turned_clip garden).at (record { x = pos 0; y = pos 1; z = pos 0 }) ≡ None
+outside_is_not_copied : (clipboard_of turned_clip garden).at (record { x = pos 0; y = pos 1; z = pos 0 }) ≡ None
 outside_is_not_copied = refl

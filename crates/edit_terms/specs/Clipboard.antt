@@ -1,7 +1,7 @@
 -- A clipboard: the blocks of a selection as they stood when they were copied, at positions relative to a
 -- placement position, turned.
 use Rattle.std.specs.Prelude.{◌≡◌, ℕ, Bool, true, false, ◌==◌, ◌&&◌, if◌then◌else◌, ℤ, pos, ◌+ℤ◌, ◌-ℤ◌, neg_ℤ, Option, Some, None}
-use Rattle.std.specs.Int.{int_max, int_min, int_gap, int_rem_euclid}
+use Rattle.std.specs.Int.{int_rem_euclid}
 use Rattle.std.specs.Option.{option_map_or, unwrap_or}
 use Rattle.edit_terms.specs.declared.pos.Pos.{Pos}
 use Rattle.edit_terms.specs.declared.direction.Direction.{Direction}
@@ -11,21 +11,9 @@ use Rattle.edit_terms.specs.declared.region.Selection.{Selection}
 use Rattle.edit_terms.specs.declared.clip.Clip.{Clip}
 use Rattle.edit_terms.specs.Area.{Area, holds, volume}
 use Rattle.edit_terms.specs.Region.{is_selected}
+use Rattle.edit_terms.specs.Frame.{frame_of_selection, common_box}
 use Rattle.edit_terms.specs.World.{BlockContent, World, content_at}
 use Rattle.edit_terms.specs.Transform.{transformed, source_position, turned_content}
-
--- how many coordinates lie among the size from low on and among the count from first on
-abbrev pub shared_size : ℤ → ℕ → ℤ → ℕ → ℕ
-shared_size low size first count = int_gap (int_max low first) (int_min (low +ℤ pos size) (first +ℤ pos count))
-
--- the blocks that belong to both boxes; where there are none, a size is 0
-abbrev pub overlap : Area → Area → Area
-overlap a b = record {
-  least = record { x = int_max a.least.x b.least.x; y = int_max a.least.y b.least.y; z = int_max a.least.z b.least.z };
-  width = shared_size a.least.x a.width b.least.x b.width;
-  height = shared_size a.least.y a.height b.least.y b.height;
-  length = shared_size a.least.z a.length b.least.z b.length;
-}
 
 -- a position counted from another
 abbrev pub relative_to : Pos → Pos → Pos
@@ -57,15 +45,11 @@ turned_area t a = transformed quarter_turned_area flipped_area t a
 
 -- The bounds of a clipboard: the bounding box of its selection, cut by the world's box, relative to the position
 -- from which it was copied, and turned. None where that box has no block of the world.
-abbrev pub clip_box_of : Area → Clip → Area → Option Area
-clip_box_of frame clip area =
-    let shared = overlap frame area in
+abbrev pub clip_box_of : Clip → Area → Option Area
+clip_box_of clip area =
+    let shared = common_box (frame_of_selection clip.from) area in
     if volume shared == 0 then None
     else Some (turned_area clip.transform (record shared { least = relative_to clip.origin shared.least }))
-
--- the box has every position of the selection
-abbrev pub Encloses : Area → Selection → Type 0
-Encloses frame selection = (p : Pos) → is_selected selection p ≡ true → holds frame p ≡ true
 
 -- A clipboard's bounds, and its content at each relative position that it has one at.
 pub record CopiedBlocks : Type 0 where
@@ -90,9 +74,9 @@ copied_content clip w r =
     let p = copied_from clip r in
     if is_selected clip.from p && holds w.area p then Some (turned_content clip.transform (content_at w p)) else None
 
--- the clipboard over the world that it was copied from, where this is its selection's bounding box
-abbrev pub clipboard_of : Area → Clip → World → CopiedBlocks
-clipboard_of frame clip w = record { bounds = clip_box_of frame clip w.area; at = copied_content clip w }
+-- the clipboard over the world that it was copied from
+abbrev pub clipboard_of : Clip → World → CopiedBlocks
+clipboard_of clip w = record { bounds = clip_box_of clip w.area; at = copied_content clip w }
 
 -- the coordinate of a tile: from the least on, by the remainder of the coordinate by the size
 abbrev pub tile_coordinate : ℤ → ℕ → ℤ → ℤ

@@ -1,16 +1,17 @@
 //! Laws of patterns and clipboards: each function does nothing, and its clauses are the law.
 
-ghost use Rattle.std.specs.Prelude.{◌≡◌, ◌&&◌, ℕ, ◌<◌, ◌^◌, true, List, [], ◌∷◌, length, Some, IfSome, is_some, All, Contains};
+ghost use Rattle.std.specs.Prelude.{◌≡◌, ℕ, ◌<◌, ◌^◌, true, List, [], ◌∷◌, length, Some, IfSome, is_some, All, Contains};
 ghost use Rattle.edit_terms.specs.declared.pos.Pos.{Pos};
 ghost use Rattle.edit_terms.specs.declared.clip.Clip.{Clip};
 ghost use Rattle.edit_terms.specs.declared.pattern.Entry.{Entry};
 ghost use Rattle.edit_terms.specs.declared.pattern.Pattern.{Pattern};
 ghost use Rattle.edit_terms.specs.Area.{Area, holds, volume};
+ghost use Rattle.edit_terms.specs.Frame.{IsSelection};
 ghost use Rattle.edit_terms.specs.World.{BlockContent, World};
 ghost use Rattle.edit_terms.specs.Draw.{draw_word};
 ghost use Rattle.edit_terms.specs.declared.transform.Transform.{Transform};
 ghost use Rattle.edit_terms.specs.Transform.{turned_position};
-ghost use Rattle.edit_terms.specs.Clipboard.{CopiedBlocks, Encloses, clipboard_of, is_in_bounds, overlap, turned_area, tile_of};
+ghost use Rattle.edit_terms.specs.Clipboard.{CopiedBlocks, clipboard_of, is_in_bounds, turned_area, tile_of};
 ghost use Rattle.edit_terms.specs.Pattern.{chosen_entry, placed, pattern_value};
 
 /// A word of 32 bits, as each random word is, chooses one of a pattern's entries, where there are some and
@@ -29,16 +30,15 @@ pub fn the_only_entry_is_chosen()
         pattern.entries ≡ e ∷ [] → 0 < e.weight → pattern_value pattern copied seed ticket p old ≡ placed copied p e.value old }
 {}
 
-/// The cells of a clipboard lie in its bounds, where the frame is a box that has the whole selection.
+/// The cells of a clipboard lie in its bounds, where the selection's positions fit 32 bits as those of code do.
 pub fn clipboard_cells_lie_in_its_bounds()
-    ensures { (frame : Area) (clip : Clip) (w : World) → Encloses frame clip.from → (r : Pos) →
-        is_some ((clipboard_of frame clip w).at r) ≡ true → is_in_bounds (clipboard_of frame clip w) r ≡ true }
+    ensures { (clip : Clip) (w : World) → IsSelection clip.from → (r : Pos) →
+        is_some ((clipboard_of clip w).at r) ≡ true → is_in_bounds (clipboard_of clip w) r ≡ true }
 {}
 
-/// The overlap of two boxes has the positions of both; a box after a transform has the positions of the box after
-/// it; and the position of a tile lies in the bounds that are repeated.
+/// A box after a transform has the positions of the box after it; and the position of a tile lies in the bounds that
+/// are repeated.
 pub fn boxes_of_a_clipboard()
-    ensures overlap { (a b : Area) (p : Pos) → holds (overlap a b) p ≡ (holds a p && holds b p) }
     ensures turned { (t : Transform) (a : Area) (r : Pos) → holds (turned_area t a) (turned_position t r) ≡ holds a r }
     ensures tile { (bounds : Area) (p : Pos) → 0 < volume bounds → holds bounds (tile_of bounds p) ≡ true }
 {}

@@ -1,4 +1,5 @@
-/// A turn of a clipboard: the flips are done first, and then so many quarter turns about y, 0 to 3.
+/// A turn of a clipboard: the flips are done first, and then so many quarter turns about y, which count
+/// modulo 4.
 #[derive(Clone, Copy, Debug, PartialEq, Eq)]
 pub struct Transform {
     pub flip_x: bool,

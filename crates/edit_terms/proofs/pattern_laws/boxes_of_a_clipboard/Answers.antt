@@ -1,8 +1,5 @@
 use Rattle.edit_terms.proofs.pattern_laws.boxes_of_a_clipboard.Goals as goal
-use Rattle.edit_terms.proofs.ClipboardLemmas.{holds-overlap, holds-turned, tile_held}
-
-pub returns-clause-overlap : goal.returns-clause-overlap
-returns-clause-overlap c = holds-overlap
+use Rattle.edit_terms.proofs.ClipboardLemmas.{holds-turned, tile_held}
 
 pub returns-clause-turned : goal.returns-clause-turned
 returns-clause-turned c = holds-turned
