@@ -4,7 +4,6 @@ use Rattle.std.specs.Prelude.{codes}
 use Rattle.edit_terms.specs.declared.region.Kind.TheVariants.{Sphere}
 use Rattle.edit_terms.specs.declared.clip.Clip.{Clip}
 use Rattle.edit_terms.specs.declared.direction.Direction.TheVariants.{West}
-use Rattle.edit_terms.specs.Area.{Area}
 use Rattle.edit_terms.specs.StateText.{State, air}
 use Rattle.edit_terms.specs.World.{World, without_entity}
 use Rattle.edit_terms.specs.Transform.{Words, decimals, turned_property, quarter_table, x_table, y_table, z_table, quarter_turned_position, flipped_position, turned_state}

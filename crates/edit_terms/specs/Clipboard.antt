@@ -1,13 +1,12 @@
 -- A clipboard: the blocks of a selection as they stood when they were copied, at positions relative to a
 -- placement position, turned.
-use Rattle.std.specs.Prelude.{◌≡◌, ℕ, Bool, true, false, ◌==◌, ◌&&◌, if◌then◌else◌, ℤ, pos, ◌+ℤ◌, ◌-ℤ◌, neg_ℤ, Option, Some, None}
+use Rattle.std.specs.Prelude.{ℕ, Bool, false, ◌==◌, ◌&&◌, if◌then◌else◌, ℤ, pos, ◌+ℤ◌, ◌-ℤ◌, neg_ℤ, Option, Some, None}
 use Rattle.std.specs.Int.{int_rem_euclid}
 use Rattle.std.specs.Option.{option_map_or, unwrap_or}
 use Rattle.edit_terms.specs.declared.pos.Pos.{Pos}
 use Rattle.edit_terms.specs.declared.direction.Direction.{Direction}
 use Rattle.edit_terms.specs.declared.direction.Direction.TheVariants.{North, South, East, West, Up, Down}
 use Rattle.edit_terms.specs.declared.transform.Transform.{Transform}
-use Rattle.edit_terms.specs.declared.region.Selection.{Selection}
 use Rattle.edit_terms.specs.declared.clip.Clip.{Clip}
 use Rattle.edit_terms.specs.Area.{Area, holds, volume}
 use Rattle.edit_terms.specs.Region.{is_selected}
