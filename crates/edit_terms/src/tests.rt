@@ -386,6 +386,42 @@ fn states_are_equal_by_name_and_properties(rt: HostRuntime) -> Result<(), Fail> 
 }
 
 #[test]
+fn contents_are_equal_by_state_and_entity(rt: HostRuntime) -> Result<(), Fail> {
+    let alloc = rt.alloc();
+    let chest = |entity| -> Result<Content, Fail> {
+        let state = state_of(alloc, "minecraft:chest", &[])?;
+        Ok(Content { state, entity })
+    };
+    let full = chest(Some(entity_of(alloc, b"ab", b"c")?))?;
+    let same = chest(Some(entity_of(alloc, b"ab", b"c")?))?;
+    let copied = full.copy(alloc)?;
+    for content in [&full, &same, &copied] {
+        assert!(rt; *content == full && full == *content);
+        assert_eq!(rt; hash_of(content), hash_of(&full));
+    }
+    let others = [
+        chest(None)?,
+        chest(Some(entity_of(alloc, b"a", b"bc")?))?,
+        chest(Some(entity_of(alloc, b"ab", b"")?))?,
+        Content {
+            state: state_of(alloc, "minecraft:barrel", &[])?,
+            entity: Some(entity_of(alloc, b"ab", b"c")?),
+        },
+    ];
+    for other in &others {
+        assert!(rt; full != *other && *other != full);
+    }
+    let entity = entity_of(alloc, b"ab", b"c")?;
+    assert!(rt; *entity == *entity_of(alloc, b"ab", b"c")?);
+    assert_eq!(rt;
+        hash_of(&*entity),
+        hash_of(&*entity_of(alloc, b"ab", b"c")?)
+    );
+    assert!(rt; *entity != *entity_of(alloc, b"abc", b"")?);
+    Ok(())
+}
+
+#[test]
 fn three_names_are_air(rt: HostRuntime) -> Result<(), Fail> {
     let alloc = rt.alloc();
     for (name, is_air) in [
