@@ -1,5 +1,5 @@
 -- The serial fold: the world after so many tickets of an order, and what each ticket changes.
-use Rattle.std.specs.Prelude.{ℕ, zero, suc, if◌then◌else◌, List, length, Option, Some, None}
+use Rattle.std.specs.Prelude.{ℕ, zero, suc, if◌then◌else◌, List, Option, Some, None}
 use Rattle.std.specs.List.{range_with_len, filter_map}
 use Rattle.edit_terms.specs.Area.{volume}
 use Rattle.edit_terms.specs.Same.{same_content}
