@@ -2,9 +2,8 @@
 use Rattle.std.proofs.Common.{◌≡◌, ℕ, zero, suc, ◌+◌, List, [], ◌∷◌, ◌++◌, length, drop, All, Some, slice_get, pos, codes, sym, ap, subst, ◌∙◌, append_assoc, arith}
 use Rattle.std.proofs.lemmas.List.{append-nil}
 use Rattle.std.proofs.lemmas.List.Elements.{All-head, All-tail}
-use Rattle.edit_terms.specs.StateText.{State}
+use Rattle.edit_terms.specs.StateText.{State, written_state, written_properties}
 use Rattle.sponge_schematic.specs.Tags.{int_tag, compound_tag}
-use Rattle.sponge_schematic.specs.Text.{state_text, properties_text}
 use Rattle.sponge_schematic.specs.Schematic.{entry_tags, palette_tags}
 
 pub drop_at_get : {A : Type 0} (xs : List A) (n : ℕ) (x : A) → slice_get xs n ≡ Some x → drop n xs ≡ x ∷ drop (suc n) xs
@@ -18,14 +17,14 @@ all_at_get P (y ∷ xs) zero x h e = let p : y ≡ x = cc in subst P p (All-head
 all_at_get P (y ∷ xs) (suc n) x h e = all_at_get P xs n x (All-tail P y xs h) e
 
 -- the text of a state without properties is its name
-pub bare_text : (s : State) → s.properties ≡ [] → state_text s ≡ s.name
-bare_text s bare = ap (λ ps. s.name ++ properties_text ps) bare ∙ append-nil s.name
+pub bare_text : (s : State) → s.properties ≡ [] → written_state s ≡ s.name
+bare_text s bare = ap (λ ps. s.name ++ written_properties ps) bare ∙ append-nil s.name
 
 pub entry_next : (ps : List State) (n : ℕ) (s : State) (put next name : List ℕ) → All (λ t. t.properties ≡ []) ps → slice_get ps n ≡ Some s → name ≡ s.name → next ≡ put ++ int_tag name (pos n)
     → put ++ entry_tags n (drop n ps) ≡ next ++ entry_tags (n + 1) (drop (n + 1) ps)
 entry_next ps n s put next name bare at named grown =
     let more : suc n ≡ n + 1 = omega arith in
-    let text : state_text s ≡ name = bare_text s (all_at_get (λ t. t.properties ≡ []) ps n s bare at) ∙ sym named in
+    let text : written_state s ≡ name = bare_text s (all_at_get (λ t. t.properties ≡ []) ps n s bare at) ∙ sym named in
     ap (λ (l : List State). put ++ entry_tags n l) (drop_at_get ps n s at)
     ∙ ap (λ (t : List ℕ). put ++ (int_tag t (pos n) ++ entry_tags (n + 1) (drop (suc n) ps))) text
     ∙ sym (append_assoc put (int_tag name (pos n)) (entry_tags (n + 1) (drop (suc n) ps)))

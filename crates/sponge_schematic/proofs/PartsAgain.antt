@@ -7,11 +7,10 @@ use Rattle.std.proofs.lemmas.Bool.{leb-true}
 use Rattle.std.proofs.lemmas.List.Elements.{All-head, All-tail}
 use Rattle.edit_terms.specs.declared.pos.Pos.{Pos}
 use Rattle.edit_terms.specs.Area.{Area, volume, is_world_box}
-use Rattle.edit_terms.specs.StateText.{State, is_block_name}
+use Rattle.edit_terms.specs.StateText.{State, is_block_name, written_state}
 use Rattle.edit_terms.specs.Grid.{GridParts, is_numbered}
 use Rattle.edit_terms.proofs.AreaLemmas.{and_both, limits, on_map, IsInRange}
 use Rattle.sponge_schematic.specs.Tags.{string, int, count, tag_name, short_tag, int_tag, byte_array_tag, int_array_tag, compound_tag}
-use Rattle.sponge_schematic.specs.Text.{state_text}
 use Rattle.sponge_schematic.specs.Varint.{varint}
 use Rattle.sponge_schematic.specs.Schematic.{box_tags, entry_tags, palette_tags, IsPlainState}
 use Rattle.sponge_schematic.specs.Candidate.{◌>>=◌, behind, short_at, int_at, corner_at, world_box, box_at, text_at, named_state, entry_at, varint_at, times, palette_at, cells_at, grid_of, grid_at, world_at, candidate}
@@ -79,7 +78,7 @@ int-length n = refl
 abbrev entry_is : State → List ℕ → Option (State × List ℕ)
 entry_is state after = Some (state, after)
 
-entry_again : (s : State) (number : ℕ) (rest : List ℕ) → IsPlainState s → entry_at (int_tag (state_text s) (pos number) ++ rest) ≡ Some (s, rest)
+entry_again : (s : State) (number : ℕ) (rest : List ℕ) → IsPlainState s → entry_at (int_tag (written_state s) (pos number) ++ rest) ≡ Some (s, rest)
 unfolding entry_at int_tag tag_name
 entry_again s number rest h =
     ap (λ (t : List ℕ). entry_at (((3 ∷ string t) ++ int (pos number)) ++ rest)) (bare_text s h.bare)
@@ -95,7 +94,7 @@ pub entries_again : (ss : List State) (number : ℕ) (rest : List ℕ) → All I
 unfolding times
 entries_again [] number rest h = refl
 entries_again (s ∷ ss) number rest h =
-    ap (λ (bs : List ℕ). entry_at bs >>= λ (a : State × List ℕ). times entry_at (length ss) a.1 >>= λ (b : List State × List ℕ). Some (a.0 ∷ b.0, b.1)) (append_assoc (int_tag (state_text s) (pos number)) (entry_tags (number + 1) ss) rest)
+    ap (λ (bs : List ℕ). entry_at bs >>= λ (a : State × List ℕ). times entry_at (length ss) a.1 >>= λ (b : List State × List ℕ). Some (a.0 ∷ b.0, b.1)) (append_assoc (int_tag (written_state s) (pos number)) (entry_tags (number + 1) ss) rest)
     ∙ ap (λ (o : Option (State × List ℕ)). o >>= λ (a : State × List ℕ). times entry_at (length ss) a.1 >>= λ (b : List State × List ℕ). Some (a.0 ∷ b.0, b.1)) (entry_again s number (entry_tags (number + 1) ss ++ rest) (All-head IsPlainState s ss h))
     ∙ ap (λ (o : Option (List State × List ℕ)). o >>= λ (b : List State × List ℕ). Some (s ∷ b.0, b.1)) (entries_again ss (number + 1) rest (All-tail IsPlainState s ss h))
 

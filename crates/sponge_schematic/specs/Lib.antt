@@ -1,5 +1,4 @@
 pub mod Tags
-pub mod Text
 pub mod Varint
 pub mod Schematic
 pub mod Read

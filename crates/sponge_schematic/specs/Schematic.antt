@@ -3,13 +3,12 @@ use Rattle.std.specs.Prelude.{◌≡◌, ℕ, ℤ, pos, ◌+◌, true, List, [],
 use Rattle.std.specs.List.{flat_map}
 use Rattle.std.specs.Int.{w32}
 use Rattle.edit_terms.specs.Area.{Area, volume, is_world_box}
-use Rattle.edit_terms.specs.StateText.{State, is_block_name}
+use Rattle.edit_terms.specs.StateText.{State, is_block_name, written_state}
 use Rattle.edit_terms.specs.Same.{same_state}
 use Rattle.edit_terms.specs.World.{BlockContent, World}
 use Rattle.edit_terms.specs.Grid.{GridParts}
 use Rattle.block_palette.specs.Numbering.{distinct, numbers}
 use Rattle.sponge_schematic.specs.Tags.{short_tag, int_tag, int_array_tag, byte_array_tag, compound_tag}
-use Rattle.sponge_schematic.specs.Text.{state_text}
 use Rattle.sponge_schematic.specs.Varint.{varint}
 
 -- What a file says beside its world: the version of the game's data.
@@ -39,7 +38,7 @@ box_tags a =
 -- a palette's entries from this number on: each an Int that is named by the state's text and holds its number
 abbrev pub entry_tags : ℕ → List State → List ℕ
 entry_tags number [] = []
-entry_tags number (s ∷ ss) = int_tag (state_text s) (pos number) ++ entry_tags (number + 1) ss
+entry_tags number (s ∷ ss) = int_tag (written_state s) (pos number) ++ entry_tags (number + 1) ss
 
 -- the tags of the palette: how many entries it has, and the entries
 unfoldable pub palette_tags : List State → List ℕ
