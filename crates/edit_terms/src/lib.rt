@@ -8,6 +8,7 @@
 mod axis;
 mod block_name;
 mod block_state;
+mod box_laws;
 mod cell_list;
 mod clip;
 mod content;
@@ -36,6 +37,7 @@ mod world_box;
 
 pub use block_name::BlockName;
 pub use block_state::BlockState;
+pub use box_laws::index_and_position;
 pub use cell_list::CellList;
 pub use clip::{Clip, Source};
 pub use content::Content;
