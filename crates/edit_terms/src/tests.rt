@@ -588,3 +588,39 @@ fn lists_are_equal_item_by_item(rt: HostRuntime) -> Result<(), Fail> {
     assert_eq!(rt; numbers.as_slice(), [3, 1, 2].as_slice());
     Ok(())
 }
+
+/// The laws and the calls that tell a form have nothing to answer; they return.
+#[test]
+fn laws_and_forms_return(rt: HostRuntime) -> Result<(), Fail> {
+    let alloc = rt.alloc();
+    let state = state_of(alloc, "minecraft:oak_stairs", &[("half", "top")])?;
+    state.well_formed();
+    state.copy(alloc)?.well_formed();
+    state.properties().well_formed();
+    let name = BlockName::from_name(name_of(alloc, state.name())?).ok_or("a block name")?;
+    name.well_formed();
+    crate::index_and_position();
+    crate::written_form();
+    crate::one_state_a_text();
+    crate::states_and_faults();
+    crate::sorting_properties();
+    crate::replacing_properties();
+    crate::four_quarter_turns();
+    crate::two_flips();
+    crate::flip_along_z();
+    crate::inverse_transform();
+    crate::turns_after_a_transform();
+    crate::flip_after_a_transform();
+    crate::turned_states_are_states();
+    crate::region_in_whole();
+    crate::region_in_frame();
+    crate::root_is_greatest();
+    crate::box_in_common();
+    crate::double_negation();
+    crate::noise_of_none_and_all();
+    crate::some_entry_is_chosen();
+    crate::the_only_entry_is_chosen();
+    crate::clipboard_cells_lie_in_its_bounds();
+    crate::boxes_of_a_clipboard();
+    Ok(())
+}
