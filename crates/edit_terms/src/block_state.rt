@@ -91,6 +91,19 @@ impl BlockState {
             || name == b"minecraft:void_air".as_slice()
     }
 
+    /// The same state, which shares its name and properties with its further copies.
+    pub fn share(self, alloc: Global) -> Result<BlockState, Memory>
+        ensures { IfOk result (λ shared. shared ≡ self) }
+    {
+        let shared = match self.held {
+            Held::Own(parts) => Arc::new(alloc, parts)?,
+            Held::Shared(parts) => parts,
+        };
+        Ok(BlockState {
+            held: Held::Shared(shared),
+        })
+    }
+
     /// The same state, which shares its name and properties with further copies.
     pub fn copy(&self, alloc: Global) -> Result<BlockState, Memory>
         ensures { IfOk result (λ copied. copied ≡ self.now) }

@@ -84,6 +84,14 @@ impl Grid {
         &self.cells
     }
 
+    /// The entities by position. No two have one position, and they are in index order.
+    pub fn entities(&self) -> &[(Pos, Arc<Entity>)]
+        ensures entities { map (λ e. (e.0, arc_value e.1)) result.now ≡ self.now.entities }
+        ensures rising { is_rising_from self.now.area 0 self.now.entities ≡ true }
+    {
+        self.entities.as_slice()
+    }
+
     /// The state at a position. None exactly outside the box.
     #[tactic(auto, using(crate::proofs::WorldLemmas::state_at_block))]
     pub fn get(&self, p: Pos) -> Option<&BlockState>

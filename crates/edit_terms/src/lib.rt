@@ -56,7 +56,7 @@ pub use pattern_laws::{
     the_only_entry_is_chosen,
 };
 pub use pos::Pos;
-pub use properties::Properties;
+pub use properties::{Properties, is_property_word};
 pub use random::random_word;
 pub use region::{Kind, Region, Selection};
 pub use region_laws::{box_in_common, region_in_frame, region_in_whole, root_is_greatest};

@@ -104,7 +104,8 @@ fn is_property(pair: &(Name, Name)) -> bool
     is_property_word(pair.0.as_slice()) && is_property_word(pair.1.as_slice())
 }
 
-fn is_property_word(bytes: &[u8]) -> bool
+/// Whether the bytes are a property's key or value: 1 to 64 of a to z, 0 to 9 and `_`.
+pub fn is_property_word(bytes: &[u8]) -> bool
     ensures { result ≡ is_property_word bytes.now }
 {
     bytes.len() <= 64 && is_word(bytes)

@@ -368,7 +368,9 @@ fn states_are_equal_by_name_and_properties(rt: HostRuntime) -> Result<(), Fail> 
     let own = state_of(alloc, "minecraft:oak_stairs", &pairs)?;
     let shared = own.copy(alloc)?;
     let shared_again = shared.copy(alloc)?;
-    for state in [&own, &shared, &shared_again] {
+    let handed_on = own.copy(alloc)?.share(alloc)?;
+    let handed_over = state_of(alloc, "minecraft:oak_stairs", &pairs)?.share(alloc)?;
+    for state in [&own, &shared, &shared_again, &handed_on, &handed_over] {
         assert_eq!(rt; state.name(), b"minecraft:oak_stairs".as_slice());
         assert_pairs(&rt, state.properties(), &pairs);
         assert!(rt; *state == own && own == *state);

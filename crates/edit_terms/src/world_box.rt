@@ -53,6 +53,13 @@ impl WorldBox {
         }
     }
 
+    /// Does nothing: the box is one of a world.
+    pub fn well_formed(&self)
+        ensures { is_world_box self.now ≡ true }
+    {
+        let _least = self.least;
+    }
+
     /// The least corner.
     pub fn least(&self) -> Pos
         ensures { result ≡ self.now.least }

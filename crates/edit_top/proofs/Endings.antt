@@ -6,16 +6,18 @@ use Rattle.run_ports.specs.Output.{OutputState, IsAppended, IsPartlyAppended}
 use Rattle.edit_top.specs.declared.top_call.Prepared.{Prepared}
 use Rattle.edit_top.specs.declared.status.Status.{Status}
 use Rattle.edit_top.specs.declared.status.Status.TheVariants.{Done, Usage, ReadFault, TooLong, WorldRefused, ScriptRefused, SaveFault, PrintFault, OutOfMemory}
-use Rattle.edit_top.specs.Words.{FileNames, names_of}
+use Rattle.edit_top.specs.Words.{Asked, asked_by}
 use Rattle.edit_top.specs.Outputs.{output_view, AreSaved, StopsSaving}
-use Rattle.edit_top.specs.Ends.{IsRunOf, saved_file, Ends}
+use Rattle.edit_top.specs.Ends.{IsRunOf, IsTold, saved_file, Ends}
+use Rattle.edit_top.specs.Reading.{IsCause}
+use Rattle.edit_top.specs.Status.{fault_text}
 use Rattle.edit_top.specs.Prepared.{IsPrepared, Finishes}
 use Rattle.edit_top.proofs.Messages.{rose_since}
 
 -- the run that was prepared
-abbrev prepared_run : (words : List (List ℕ)) (names : FileNames) (told : Option Files) (prepared : Prepared) → names_of words ≡ Some names → IsPrepared names told prepared → IsRunOf words told
-prepared_run words names told prepared are made = record {
-  names = names;
+abbrev prepared_run : (words : List (List ℕ)) (asked : Asked) (told : Option Files) (prepared : Prepared) → asked_by words ≡ Some asked → IsPrepared asked told prepared → IsRunOf words told
+prepared_run words asked told prepared are made = record {
+  asked = asked;
   are = are;
   loaded = made.loaded;
   script = made.script;
@@ -50,28 +52,28 @@ torn_one before after name bytes stop = by_front stop.front stop.parts stop.save
     by_front (o ∷ p ∷ front) parts saved = absurd cc
 
 -- a run that was prepared ends as its saves and its print do
-module _ (words : List (List ℕ)) (names : FileNames) (are : names_of words ≡ Some names) (before mid after : StoreState) (stays : mid.files ≡ before.files) (later : IsLater before mid) (shown told : OutputState) (prepared : Prepared) (made : IsPrepared names before.files prepared) where
-  saved_here : AreSaved mid.files after.files (map output_view prepared.outputs.items) → IsSaved before.files after.files names.out (saved_file (prepared_run words names before.files prepared are made))
+module _ (words : List (List ℕ)) (asked : Asked) (are : asked_by words ≡ Some asked) (before mid after : StoreState) (stays : mid.files ≡ before.files) (later : IsLater before mid) (shown told : OutputState) (prepared : Prepared) (made : IsPrepared asked before.files prepared) where
+  saved_here : AreSaved mid.files after.files (map output_view prepared.outputs.items) → IsSaved before.files after.files asked.names.out (saved_file (prepared_run words asked before.files prepared are made))
   saved_here saved =
       let by_outputs = subst (λ (os : List (List ℕ × List ℕ)). AreSaved mid.files after.files os) made.made.outputs saved in
-      subst (λ (f : Option Files). IsSaved f after.files names.out (saved_file (prepared_run words names before.files prepared are made))) stays by_outputs
+      subst (λ (f : Option Files). IsSaved f after.files asked.names.out (saved_file (prepared_run words asked before.files prepared are made))) stays by_outputs
 
-  pub ends_finished : (status : Status) → Finishes names prepared mid after shown told status → Ends words before after shown told status
+  pub ends_finished : (status : Status) → Finishes asked.names prepared mid after shown told status → Ends words before after shown told status
   ends_finished Done f = record {
-    run = prepared_run words names before.files prepared are made;
+    run = prepared_run words asked before.files prepared are made;
     saved = saved_here f.saved;
     printed = subst (λ (t : List ℕ). IsAppended shown.written told.written t) made.made.text f.printed;
   }
   ends_finished SaveFault f =
-      let stop = torn_one mid after names.out (saved_file (prepared_run words names before.files prepared are made)) (subst (λ (os : List (List ℕ × List ℕ)). StopsSaving mid after os) made.made.outputs f.stopped) in
+      let stop = torn_one mid after asked.names.out (saved_file (prepared_run words asked before.files prepared are made)) (subst (λ (os : List (List ℕ × List ℕ)). StopsSaving mid after os) made.made.outputs f.stopped) in
       record {
-        run = prepared_run words names before.files prepared are made;
-        rose = rose_since (before.save_faults names.out) (mid.save_faults names.out) (after.save_faults names.out) (later.save_faults names.out) stop.1;
-        torn = subst (λ (g : Option Files). IsTorn g after.files names.out (saved_file (prepared_run words names before.files prepared are made))) stays stop.0;
+        run = prepared_run words asked before.files prepared are made;
+        rose = rose_since (before.save_faults asked.names.out) (mid.save_faults asked.names.out) (after.save_faults asked.names.out) (later.save_faults asked.names.out) stop.1;
+        torn = subst (λ (g : Option Files). IsTorn g after.files asked.names.out (saved_file (prepared_run words asked before.files prepared are made))) stays stop.0;
         message = f.message;
       }
   ends_finished PrintFault f = record {
-    run = prepared_run words names before.files prepared are made;
+    run = prepared_run words asked before.files prepared are made;
     rose = f.rose;
     saved = saved_here f.saved;
     partly = subst (λ (t : List ℕ). IsPartlyAppended shown.written told.written t) made.made.text f.partly;
@@ -82,3 +84,16 @@ module _ (words : List (List ℕ)) (names : FileNames) (are : names_of words ≡
   ends_finished (WorldRefused fault) f = absurd f
   ends_finished (ScriptRefused script fault) f = absurd f
   ends_finished OutOfMemory f = absurd f
+
+-- a run that stopped before its save ends so
+pub ends_stopped : (words : List (List ℕ)) (asked : Asked) (before after : StoreState) (shown told : OutputState) (status : Status) → asked_by words ≡ Some asked
+    → IsCause asked.names before after status → after.files ≡ before.files → IsTold shown told (fault_text asked.names status) → Ends words before after shown told status
+ends_stopped words asked before after shown told Done are cause stays message = absurd cause
+ends_stopped words asked before after shown told Usage are cause stays message = absurd cause
+ends_stopped words asked before after shown told SaveFault are cause stays message = absurd cause
+ends_stopped words asked before after shown told PrintFault are cause stays message = absurd cause
+ends_stopped words asked before after shown told (ReadFault file) are cause stays message = record { asked = asked; are = are; cause = cause; stays = stays; message = message }
+ends_stopped words asked before after shown told (TooLong file) are cause stays message = record { asked = asked; are = are; cause = cause; stays = stays; message = message }
+ends_stopped words asked before after shown told (WorldRefused fault) are cause stays message = record { asked = asked; are = are; cause = cause; stays = stays; message = message }
+ends_stopped words asked before after shown told (ScriptRefused script fault) are cause stays message = record { asked = asked; are = are; cause = cause; stays = stays; message = message }
+ends_stopped words asked before after shown told OutOfMemory are cause stays message = record { asked = asked; are = are; cause = cause; stays = stays; message = message }

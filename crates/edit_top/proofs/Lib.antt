@@ -6,3 +6,6 @@ pub mod Printing
 pub mod Messages
 pub mod Saving
 pub mod Endings
+pub mod Digits
+pub mod CanvasEntities
+pub mod Writable

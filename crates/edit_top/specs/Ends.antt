@@ -7,26 +7,27 @@ use Rattle.run_terms.specs.Reply.{final_world}
 use Rattle.run_ports.specs.Count.{Rose}
 use Rattle.run_ports.specs.Store.{Files, StoreState, IsSaved, IsTorn}
 use Rattle.run_ports.specs.Output.{OutputState, IsAppended, IsPartlyAppended}
-use Rattle.sponge_schematic.specs.Schematic.{Loaded, schematic_bytes}
+use Rattle.sponge_schematic.specs.Carried.{Loaded}
+use Rattle.sponge_schematic.specs.File.{schematic_bytes}
 use Rattle.edit_top.specs.declared.status.Status.{Status}
 use Rattle.edit_top.specs.declared.status.Status.TheVariants.{Done, Usage, ReadFault, TooLong, WorldRefused, ScriptRefused, SaveFault, PrintFault, OutOfMemory}
-use Rattle.edit_top.specs.Words.{FileNames, names_of}
+use Rattle.edit_top.specs.Words.{Asked, asked_by}
 use Rattle.edit_top.specs.Status.{fault_text, usage_text}
 use Rattle.edit_top.specs.RunText.{run_text}
 use Rattle.edit_top.specs.Reading.{HasWorld, HasScript, IsCause}
 
--- the workload of a world and one script: seed 0, and a history of 15 edits
-abbrev pub workload : Loaded → Script → Workload
-workload loaded script = record { opening = loaded.world; scripts = script ∷ []; seed = 0; depth = 15 }
+-- the workload of a world and one script, with the seed and the depth of the words
+abbrev pub workload : Asked → Loaded → Script → Workload
+workload asked loaded script = record { opening = loaded.world; scripts = script ∷ []; seed = asked.seed; depth = asked.depth }
 
 -- A run of these words over these files: the world and the script that were read, and one order of all commands.
 pub record IsRunOf (words : List (List ℕ)) (told : Option Files) : Type 0 where
-  pub names : FileNames
-  pub are : names_of words ≡ Some names
+  pub asked : Asked
+  pub are : asked_by words ≡ Some asked
   pub loaded : Loaded
   pub script : Script
-  pub world : HasWorld told names loaded
-  pub read : HasScript told names script
+  pub world : HasWorld told asked.names loaded
+  pub read : HasScript told asked.names script
   pub order : List ℕ
   pub legal : IsLegalOrder (script ∷ []) order
   pub whole : IsWholeOrder (script ∷ []) order
@@ -34,11 +35,11 @@ pub record IsRunOf (words : List (List ℕ)) (told : Option Files) : Type 0 wher
 module _ {words : List (List ℕ)} {told : Option Files} where
   -- the file of the world that the order leaves
   abbrev pub saved_file : IsRunOf words told → List ℕ
-  saved_file run = schematic_bytes run.loaded.carried (final_world (workload run.loaded run.script) run.order)
+  saved_file run = schematic_bytes run.loaded.carried (final_world (workload run.asked run.loaded run.script) run.order)
 
   -- the text of the order and its replies
   abbrev pub printed_text : IsRunOf words told → List ℕ
-  printed_text run = run_text (workload run.loaded run.script) run.order
+  printed_text run = run_text (workload run.asked run.loaded run.script) run.order
 
 -- a prefix of the message was put, and all of it where the output's faults didn't rise
 pub record IsTold (before after : OutputState) (text : List ℕ) : Type 0 where
@@ -50,36 +51,36 @@ pub record IsTold (before after : OutputState) (text : List ℕ) : Type 0 where
 -- order and its replies was put.
 pub record IsDone (words : List (List ℕ)) (before after : StoreState) (shown told : OutputState) : Type 0 where
   pub run : IsRunOf words before.files
-  pub saved : IsSaved before.files after.files run.names.out (saved_file run)
+  pub saved : IsSaved before.files after.files run.asked.names.out (saved_file run)
   pub printed : IsAppended shown.written told.written (printed_text run)
 
 -- the save failed: OUT holds a prefix of the file or what it held, and its failure was counted
 pub record IsHalfSaved (words : List (List ℕ)) (before after : StoreState) (shown told : OutputState) : Type 0 where
   pub run : IsRunOf words before.files
-  pub rose : Rose (before.save_faults run.names.out) (after.save_faults run.names.out)
-  pub torn : IsTorn before.files after.files run.names.out (saved_file run)
-  pub message : IsTold shown told (fault_text run.names SaveFault)
+  pub rose : Rose (before.save_faults run.asked.names.out) (after.save_faults run.asked.names.out)
+  pub torn : IsTorn before.files after.files run.asked.names.out (saved_file run)
+  pub message : IsTold shown told (fault_text run.asked.names SaveFault)
 
 -- the print failed: the file is saved whole, a prefix of the text was put, and the failure was counted
 pub record IsHalfPrinted (words : List (List ℕ)) (before after : StoreState) (shown told : OutputState) : Type 0 where
   pub run : IsRunOf words before.files
   pub rose : Rose shown.faults told.faults
-  pub saved : IsSaved before.files after.files run.names.out (saved_file run)
+  pub saved : IsSaved before.files after.files run.asked.names.out (saved_file run)
   pub partly : IsPartlyAppended shown.written told.written (printed_text run)
 
 -- the words aren't of the form
 pub record IsMisused (words : List (List ℕ)) (before after : StoreState) (shown told : OutputState) : Type 0 where
-  pub words_are : names_of words ≡ None
+  pub words_are : asked_by words ≡ None
   pub stays : after.files ≡ before.files
   pub message : IsTold shown told usage_text
 
 -- a refusal before the save: it has its cause, and the files are as before
 pub record IsStopped (words : List (List ℕ)) (before after : StoreState) (shown told : OutputState) (status : Status) : Type 0 where
-  pub names : FileNames
-  pub are : names_of words ≡ Some names
-  pub cause : IsCause names before after status
+  pub asked : Asked
+  pub are : asked_by words ≡ Some asked
+  pub cause : IsCause asked.names before after status
   pub stays : after.files ≡ before.files
-  pub message : IsTold shown told (fault_text names status)
+  pub message : IsTold shown told (fault_text asked.names status)
 
 -- Each ending of a run of these words, between two states of the file store and of the output.
 abbrev pub Ends : List (List ℕ) → StoreState → StoreState → OutputState → OutputState → Status → Type 0
@@ -111,12 +112,12 @@ IsNoFailure _ = Unit {0}
 pub record IsGood (words : List (List ℕ)) (told : Option Files) : Type 0 where
   pub files : Files
   pub tells : told ≡ Some files
-  pub names : FileNames
-  pub are : names_of words ≡ Some names
+  pub asked : Asked
+  pub are : asked_by words ≡ Some asked
   pub loaded : Loaded
-  pub world : HasWorld told names loaded
+  pub world : HasWorld told asked.names loaded
   pub script : Script
-  pub read : HasScript told names script
+  pub read : HasScript told asked.names script
 
 -- the run ended well, or an allocation was refused
 abbrev pub IsDoneOrMemory : Status → Type 0

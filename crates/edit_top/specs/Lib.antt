@@ -1,4 +1,5 @@
 pub mod Canvas
+pub mod CanvasGrid
 pub mod Plain
 pub mod RunText
 pub mod Words

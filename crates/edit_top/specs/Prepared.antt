@@ -6,11 +6,12 @@ use Rattle.run_terms.specs.Reply.{final_world}
 use Rattle.run_ports.specs.Count.{Rose}
 use Rattle.run_ports.specs.Store.{Files, StoreState}
 use Rattle.run_ports.specs.Output.{OutputState, IsAppended, IsPartlyAppended}
-use Rattle.sponge_schematic.specs.Schematic.{Loaded, schematic_bytes}
+use Rattle.sponge_schematic.specs.Carried.{Loaded}
+use Rattle.sponge_schematic.specs.File.{schematic_bytes}
 use Rattle.edit_top.specs.declared.top_call.Prepared.{Prepared}
 use Rattle.edit_top.specs.declared.status.Status.{Status}
 use Rattle.edit_top.specs.declared.status.Status.TheVariants.{Done, SaveFault, PrintFault}
-use Rattle.edit_top.specs.Words.{FileNames}
+use Rattle.edit_top.specs.Words.{FileNames, Asked}
 use Rattle.edit_top.specs.Status.{fault_text}
 use Rattle.edit_top.specs.RunText.{run_text}
 use Rattle.edit_top.specs.Reading.{HasWorld, HasScript}
@@ -18,20 +19,20 @@ use Rattle.edit_top.specs.Outputs.{output_view, AreSaved, StopsSaving}
 use Rattle.edit_top.specs.Ends.{workload, IsTold}
 
 -- the file and the text of one order of a script's commands over a world
-pub record IsMade (names : FileNames) (loaded : Loaded) (script : Script) (prepared : Prepared) : Type 0 where
+pub record IsMade (asked : Asked) (loaded : Loaded) (script : Script) (prepared : Prepared) : Type 0 where
   pub order : List ℕ
   pub legal : IsLegalOrder (script ∷ []) order
   pub whole : IsWholeOrder (script ∷ []) order
-  pub outputs : map output_view prepared.outputs.items ≡ (names.out, schematic_bytes loaded.carried (final_world (workload loaded script) order)) ∷ []
-  pub text : prepared.text.items ≡ run_text (workload loaded script) order
+  pub outputs : map output_view prepared.outputs.items ≡ (asked.names.out, schematic_bytes loaded.carried (final_world (workload asked loaded script) order)) ∷ []
+  pub text : prepared.text.items ≡ run_text (workload asked loaded script) order
 
 -- the same of the world and the script that were read
-pub record IsPrepared (names : FileNames) (told : Option Files) (prepared : Prepared) : Type 0 where
+pub record IsPrepared (asked : Asked) (told : Option Files) (prepared : Prepared) : Type 0 where
   pub loaded : Loaded
   pub script : Script
-  pub world : HasWorld told names loaded
-  pub read : HasScript told names script
-  pub made : IsMade names loaded script prepared
+  pub world : HasWorld told asked.names loaded
+  pub read : HasScript told asked.names script
+  pub made : IsMade asked loaded script prepared
 
 -- all is saved and the whole text is put
 pub record IsAllOut (before after : StoreState) (shown told : OutputState) (prepared : Prepared) : Type 0 where

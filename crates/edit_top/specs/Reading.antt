@@ -1,12 +1,12 @@
 -- What a run reads, and why it may stop at reading. A fact about the bytes of a file is said where the file store
 -- tells its files.
-use Rattle.std.specs.Prelude.{◌≡◌, ℕ, zero, suc, ◌≤◌, List, length, Option, Some, None, IfSome, IsSomeAnd}
+use Rattle.std.specs.Prelude.{◌≡◌, ℕ, zero, suc, ◌≤◌, List, length, Option, Some, None, Result, Ok, Err, IfSome, IsSomeAnd}
 use Rattle.edit_terms.specs.declared.script.Script.{Script}
 use Rattle.run_ports.specs.Count.{Rose}
 use Rattle.run_ports.specs.Store.{Files, StoreState, IsLater, IsTooLong}
 use Rattle.sponge_schematic.specs.declared.fault.WorldFault.{WorldFault}
-use Rattle.sponge_schematic.specs.declared.fault.WorldFault.TheVariants as world_faults
-use Rattle.sponge_schematic.specs.Schematic.{Loaded, IsFileOf}
+use Rattle.sponge_schematic.specs.Carried.{Loaded}
+use Rattle.sponge_schematic.specs.Schematic.{schematic_of}
 use Rattle.command_syntax.specs.declared.fault.ScriptFault.{ScriptFault}
 use Rattle.command_syntax.specs.declared.fault.ScriptFault.TheVariants as script_faults
 use Rattle.command_syntax.specs.Script.{script_of}
@@ -25,15 +25,15 @@ script_limit = 1048576
 abbrev pub HasFile : Option Files → List ℕ → ℕ → (List ℕ → Type 0) → Type 0
 HasFile told name limit P = IfSome told (λ files. IsSomeAnd (files name) (λ bytes. (length bytes ≤ limit) × P bytes))
 
--- the world's file is the file of this world
+-- the world's file gives this world, and this beside it
 abbrev pub HasWorld : Option Files → FileNames → Loaded → Type 0
-HasWorld told names loaded = HasFile told names.world world_limit (λ bytes. IsFileOf bytes loaded)
+HasWorld told names loaded = HasFile told names.world world_limit (λ bytes. schematic_of bytes ≡ Ok loaded)
 
 -- the script's file is this script
 abbrev pub HasScript : Option Files → FileNames → Script → Type 0
 HasScript told names script = HasFile told names.script script_limit (λ bytes. script_of bytes ≡ Some script)
 
--- the world's file is the file of some world
+-- the world's file gives some world
 pub record WorldIsRead (told : Option Files) (names : FileNames) : Type 0 where
   pub loaded : Loaded
   pub has : HasWorld told names loaded
@@ -44,10 +44,9 @@ pub record IsLong (before after : StoreState) (name : List ℕ) (limit : ℕ) : 
   pub counted : Rose before.longs after.longs
   pub no_fault : after.faults name ≡ before.faults name
 
--- the world's file is the file of no world
-pub record IsNoWorld (told : Option Files) (names : FileNames) (fault : WorldFault) : Type 0 where
-  pub unbuilt : fault ≡ world_faults.Unbuilt
-  pub none : HasFile told names.world world_limit (λ bytes. (loaded : Loaded) → IsFileOf bytes loaded → ⊥)
+-- the world's file is refused with this first fault
+abbrev pub IsNoWorld : Option Files → FileNames → WorldFault → Type 0
+IsNoWorld told names fault = HasFile told names.world world_limit (λ bytes. schematic_of bytes ≡ Err fault)
 
 -- the script's file is no script
 pub record IsNoScript (told : Option Files) (names : FileNames) (script : ℕ) (fault : ScriptFault) : Type 0 where

@@ -1,39 +1,27 @@
-//! The world while a script runs: a grid's states by number and each position's number.
+//! The world while a script runs: contents by number and each position's number.
 
-ghost use Rattle.std.specs.Prelude.{◌≡◌, ◌≤◌, ◌<◌, ◌^◌, ◌&&◌, true, false, not, List, [], ℕ, length, map, get_or, count_by, IfOk, All};
+ghost use Rattle.std.specs.Prelude.{◌≡◌, ℕ, ◌≤◌, ◌<◌, ◌^◌, ◌&&◌, not, length, map, get_or, count_by, IfOk, All};
 ghost use Rattle.std.specs.List.{range_with_len};
 ghost use Rattle.edit_terms.specs.declared.region.Kind.TheVariants.{Cuboid};
 ghost use Rattle.edit_terms.specs.Area.{volume, position_of};
 ghost use Rattle.edit_terms.specs.Region.{is_between, is_in_shape, is_selected};
-ghost use Rattle.edit_terms.specs.Same.{same_state};
-ghost use Rattle.edit_top.specs.Canvas.{grid_of, painted, is_changed, IsNumbered, IsFilled};
+ghost use Rattle.edit_terms.specs.World.{without_entity};
+ghost use Rattle.edit_terms.specs.Same.{same_content};
+ghost use Rattle.edit_top.specs.Canvas.{painting_of, painted, is_changed, IsNumbered, IsFilled};
 
-use edit_terms::{BlockState, Grid, Pos, Selection, WorldBox};
+use edit_terms::{BlockState, Content, Pos, Selection, WorldBox};
 use memory::Memory;
 use std::alloc::Global;
 
-/// A world without entities whose blocks change.
+/// A world whose blocks change. Two numbers may name one content.
 #[derive(Drop)]
 pub(crate) struct Canvas {
     pub(crate) area: WorldBox,
-    pub(crate) kinds: Vec<BlockState>,
+    pub(crate) kinds: Vec<Content>,
     pub(crate) cells: Vec<u32>,
 }
 
 impl Canvas {
-    /// The blocks of a grid without entities.
-    pub(crate) fn of(alloc: Global, grid: &Grid) -> Result<Canvas, Memory>
-        requires { grid.now.entities ≡ [] }
-        ensures same { IfOk result (λ canvas. grid_of canvas ≡ grid.now) }
-        ensures numbered { IfOk result (λ canvas. IsNumbered (grid_of canvas)) }
-    {
-        Ok(Canvas {
-            area: *grid.area(),
-            kinds: copies(alloc, grid.kinds())?,
-            cells: Vec::from_slice(alloc, grid.cells())?,
-        })
-    }
-
     /// Fills a selection with a state, and tells how many blocks this changed.
     pub(crate) fn fill(
         &mut self,
@@ -42,37 +30,29 @@ impl Canvas {
         state: &BlockState,
     ) -> Result<u32, Memory>
         requires shape { selection.now.kind ≡ Cuboid }
-        requires numbered { IsNumbered (grid_of self.old) }
-        ensures { IfOk result (IsFilled (grid_of self.old) (grid_of self.new) selection.now state.now) }
+        requires numbered { IsNumbered (painting_of self.old) }
+        ensures { IfOk result (IsFilled (painting_of self.old) (painting_of self.new) selection.now state.now) }
     {
         let Ok(number) = u32::try_from(self.kinds.len()) else {
             return Err(Memory);
         };
-        let differs = differing(alloc, &self.kinds, state)?;
+        let content = bare_content(alloc, state)?;
+        let differs = differing(alloc, &self.kinds, &content)?;
         let changed = count_changed(&self.area, selection, &self.cells, &differs);
-        self.kinds.push(state.copy(alloc)?)?;
+        self.kinds.push(content)?;
         paint(&self.area, selection, number, &mut self.cells);
         Ok(changed)
     }
-
-    /// The grid of these blocks.
-    pub(crate) fn into_grid(self, alloc: Global) -> Grid
-        requires { IsNumbered (grid_of self) }
-        ensures { result ≡ grid_of self }
-    {
-        Grid::from_parts(alloc, self.area, self.kinds, self.cells).unwrap()
-    }
 }
 
-/// The same states once more.
-fn copies(alloc: Global, kinds: &[BlockState]) -> Result<Vec<BlockState>, Memory>
-    ensures { IfOk result (λ copied. copied.items ≡ kinds.now) }
+/// A state without an entity.
+pub(crate) fn bare_content(alloc: Global, state: &BlockState) -> Result<Content, Memory>
+    ensures { IfOk result (λ content. content ≡ without_entity state.now) }
 {
-    let mut copied = Vec::with_capacity(alloc, kinds.len())?;
-    for kind in kinds {
-        copied.push(kind.copy(alloc)?)?;
-    }
-    Ok(copied)
+    Ok(Content {
+        state: state.copy(alloc)?,
+        entity: None,
+    })
 }
 
 /// Puts this number at each position of the selection.
@@ -89,8 +69,8 @@ pub(crate) fn paint(area: &WorldBox, selection: &Selection, number: u32, cells: 
     }
 }
 
-/// How many positions of the selection have a state that differs from the new one: `differs` says so by
-/// the state's number.
+/// How many positions of the selection have a content that differs from the new one: `differs` says so
+/// by the content's number.
 pub(crate) fn count_changed(
     area: &WorldBox,
     selection: &Selection,
@@ -126,15 +106,15 @@ fn is_changed(
     differs[cells[index as usize] as usize] && is_selected_at(area, selection, index)
 }
 
-/// Which states differ from this one.
+/// Which contents differ from this one.
 pub(crate) fn differing(
     alloc: Global,
-    kinds: &[BlockState],
-    state: &BlockState,
+    kinds: &[Content],
+    content: &Content,
 ) -> Result<Vec<bool>, Memory>
-    ensures { IfOk result (λ differs. differs.items ≡ map (λ kind. not (same_state kind state.now)) kinds.now) }
+    ensures { IfOk result (λ differs. differs.items ≡ map (λ kind. not (same_content kind content.now)) kinds.now) }
 {
-    Ok(kinds.iter().map(|kind| *kind != *state).collect(alloc)?)
+    Ok(kinds.iter().map(|kind| *kind != *content).collect(alloc)?)
 }
 
 fn is_selected_at(area: &WorldBox, selection: &Selection, index: u32) -> bool

@@ -4,9 +4,9 @@ ghost use Rattle.std.specs.Prelude.{◌≡◌, [], ◌∷◌, length, IfOk, All}
 ghost use Rattle.edit_terms.specs.declared.pattern.Value.TheVariants.{Fixed};
 ghost use Rattle.run_terms.specs.Reply.{IsOutcome};
 ghost use Rattle.run_terms.specs.Workload.{workload_of};
-ghost use Rattle.edit_top.specs.Canvas.{grid_of, session_of, IsNumbered};
+ghost use Rattle.edit_top.specs.Canvas.{painting_of, IsNumbered};
 ghost use Rattle.command_syntax.specs.Plain.{IsPlainCommand, IsPlainPattern};
-ghost use Rattle.edit_top.specs.Plain.{IsPlainCase, IsAnswered, HasRun, AreBare};
+ghost use Rattle.edit_top.specs.Plain.{IsPlainCase, IsAnswered, HasRun};
 
 use crate::canvas::Canvas;
 use crate::session::Session;
@@ -18,8 +18,6 @@ use std::alloc::Global;
 pub(crate) fn run_scripts(alloc: Global, case: &Case) -> Result<Outcome, Memory>
     requires { IsPlainCase case.now }
     ensures outcome { IfOk result (IsOutcome (workload_of case.now)) }
-    ensures entities { IfOk result (λ outcome. outcome.world.entities ≡ []) }
-    ensures kinds { IfOk result (λ outcome. AreBare outcome.world.kinds) }
 {
     let lines = case.scripts.as_slice()[0].lines.as_slice();
     let mut canvas = Canvas::of(alloc, &case.opening)?;
@@ -28,15 +26,15 @@ pub(crate) fn run_scripts(alloc: Global, case: &Case) -> Result<Outcome, Memory>
     Ok(Outcome {
         order: Items::from_vec(order),
         replies: Items::from_vec(replies),
-        world: canvas.into_grid(alloc),
+        world: canvas.into_grid(alloc)?,
     })
 }
 
 /// Runs the lines of one script.
 fn run_lines(alloc: Global, lines: &[Line], canvas: &mut Canvas) -> Result<Vec<Reply>, Memory>
     requires plain { All (λ line. IsPlainCommand line.command) lines.now }
-    requires numbered { IsNumbered (grid_of canvas.old) }
-    ensures { IfOk result (λ replies. HasRun lines.now (grid_of canvas.old) (grid_of canvas.new) (length lines.now) replies.items) }
+    requires numbered { IsNumbered (painting_of canvas.old) }
+    ensures { IfOk result (λ replies. HasRun lines.now (painting_of canvas.old) (painting_of canvas.new) (length lines.now) replies.items) }
 {
     let mut session = Session::start();
     let mut replies = Vec::with_capacity(alloc, lines.len())?;
@@ -48,6 +46,7 @@ fn run_lines(alloc: Global, lines: &[Line], canvas: &mut Canvas) -> Result<Vec<R
 }
 
 /// One command in its session.
+#[tactic(auto, using(crate::proofs::Answering::first_is_answered, crate::proofs::Answering::second_is_answered))]
 fn answer(
     alloc: Global,
     session: &mut Session,
@@ -55,8 +54,8 @@ fn answer(
     command: &Command,
 ) -> Result<Reply, Memory>
     requires plain { IsPlainCommand command.now }
-    requires numbered { IsNumbered (grid_of canvas.old) }
-    ensures { IfOk result (IsAnswered (session_of session.old) (session_of session.new) (grid_of canvas.old) (grid_of canvas.new) command.now) }
+    requires numbered { IsNumbered (painting_of canvas.old) }
+    ensures { IfOk result (IsAnswered session.old session.new (painting_of canvas.old) (painting_of canvas.new) command.now) }
 {
     match command {
         Command::Pos1 { at } => {
@@ -80,8 +79,8 @@ fn set(
     pattern: &Pattern,
 ) -> Result<Reply, Memory>
     requires fixed { IsPlainPattern pattern.now }
-    requires numbered { IsNumbered (grid_of canvas.old) }
-    ensures { IfOk result (IsAnswered (session_of session.now) (session_of session.now) (grid_of canvas.old) (grid_of canvas.new) (Command.Set pattern.now)) }
+    requires numbered { IsNumbered (painting_of canvas.old) }
+    ensures { IfOk result (IsAnswered session.now session.now (painting_of canvas.old) (painting_of canvas.new) (Command.Set pattern.now)) }
 {
     let Some(selection) = session.selection() else {
         return Ok(Reply::Refused(Refusal::NoSelection));

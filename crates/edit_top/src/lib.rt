@@ -6,6 +6,9 @@
 #![tactic(auto)]
 
 mod canvas;
+mod canvas_grid;
+#[cfg(test)]
+mod fixtures;
 mod fold;
 mod loading;
 mod outputs;
@@ -17,6 +20,9 @@ mod telling;
 mod tests;
 mod top_call;
 mod words;
+mod world_fault;
+#[cfg(test)]
+mod world_tests;
 
 pub use memory::Memory;
 pub use status::Status;

@@ -1,8 +1,9 @@
 //! A player's session: the two positions of its selection.
 
-ghost use Rattle.std.specs.Prelude.{◌≡◌};
-ghost use Rattle.run_terms.specs.Session.{Session as SessionState, opening_session, selection_of, after_command};
-ghost use Rattle.edit_top.specs.Canvas.{session_of};
+ghost use Rattle.std.specs.Prelude.{◌≡◌, ℕ};
+ghost use Rattle.edit_terms.specs.declared.region.Kind.TheVariants.{Cuboid};
+ghost use Rattle.run_terms.specs.Session.{opening_session, selection_from};
+ghost use Rattle.edit_top.specs.Canvas.{IsKept};
 
 use edit_terms::{Kind, Pos, Selection};
 
@@ -16,7 +17,7 @@ pub(crate) struct Session {
 impl Session {
     /// No position is set.
     pub(crate) fn start() -> Session
-        ensures { session_of result ≡ opening_session }
+        ensures { (player depth : ℕ) → IsKept (opening_session player depth) result }
     {
         Session {
             first: None,
@@ -26,7 +27,7 @@ impl Session {
 
     /// The selection. None exactly where a position isn't set.
     pub(crate) fn selection(&self) -> Option<Selection>
-        ensures { result ≡ selection_of (session_of self.now) }
+        ensures { result ≡ selection_from Cuboid self.now.first self.now.second }
     {
         match (self.first, self.second) {
             (Some(first), Some(second)) => Some(Selection {

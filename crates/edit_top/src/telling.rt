@@ -7,13 +7,17 @@ ghost use Rattle.edit_top.specs.Status.{fault_text, usage_text};
 
 use crate::status::Status;
 use crate::words::Names;
+use crate::world_fault::tell_world_fault;
 use run_ports::Sink;
 
 /// Prints the message where the words aren't of the form.
 pub(crate) fn tell_usage<K: Sink>(out: &mut K)
     ensures { IsTold (K.seen out.old) (K.seen out.new) usage_text }
 {
-    tell(out, &[b"fault: usage: run WORLD OUT SCRIPT\n".as_slice()]);
+    tell(
+        out,
+        &[b"fault: usage: run WORLD OUT SEED WORKERS DEPTH SCRIPT\n".as_slice()],
+    );
 }
 
 /// Prints the message of an ending.
@@ -43,7 +47,7 @@ pub(crate) fn tell_fault<K: Sink>(out: &mut K, names: &Names<'_>, status: &Statu
                 ],
             );
         }
-        Status::WorldRefused { .. } => tell(out, &[b"fault: world: not built\n".as_slice()]),
+        Status::WorldRefused { fault } => tell_world_fault(out, fault),
         Status::ScriptRefused { script, .. } => {
             tell(
                 out,
@@ -69,7 +73,7 @@ pub(crate) fn tell_fault<K: Sink>(out: &mut K, names: &Names<'_>, status: &Statu
 }
 
 /// Puts the pieces one after the other, and nothing more after one that fails.
-fn tell<K: Sink>(out: &mut K, pieces: &[&[u8]])
+pub(crate) fn tell<K: Sink>(out: &mut K, pieces: &[&[u8]])
     ensures { IsTold (K.seen out.old) (K.seen out.new) (flat_map (λ piece. piece.now) pieces.now) }
 {
     for piece in pieces {

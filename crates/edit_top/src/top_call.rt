@@ -1,16 +1,16 @@
 //! The top call.
 
-ghost use Rattle.std.specs.Prelude.{◌≡◌, [], ◌∷◌, map, string_bytes, IfOk, IfErr};
+ghost use Rattle.std.specs.Prelude.{◌≡◌, ◌≤◌, [], ◌∷◌, length, map, string_bytes, IfOk, IfErr};
 ghost use Rattle.run_ports.specs.Store.{IsLater};
-ghost use Rattle.edit_top.specs.Words.{names_view};
-ghost use Rattle.edit_top.specs.Reading.{IsCause};
+ghost use Rattle.edit_top.specs.Words.{names_view, asked_view};
+ghost use Rattle.edit_top.specs.Reading.{world_limit, IsCause};
 ghost use Rattle.edit_top.specs.Ends.{Ends, IsGood, NothingFailed, IsDoneOrMemory, IsNoFailure};
 ghost use Rattle.edit_top.specs.Prepared.{IsMade, IsPrepared, Finishes};
 ghost use Rattle.edit_top.specs.RunText.{run_text};
 ghost use Rattle.run_terms.specs.Workload.{workload_of};
 ghost use Rattle.run_terms.specs.Reply.{IsOutcome};
-ghost use Rattle.sponge_schematic.specs.Read.{loaded_of};
-ghost use Rattle.sponge_schematic.specs.Schematic.{IsPlainGrid};
+ghost use Rattle.edit_terms.specs.Grid.{world_of};
+ghost use Rattle.sponge_schematic.specs.Read.{loaded_of, IsWritable};
 ghost use Rattle.command_syntax.specs.Plain.{IsPlainScript};
 
 use crate::fold::run_scripts;
@@ -19,7 +19,7 @@ use crate::outputs::{Output, save_all};
 use crate::run_text::run_text;
 use crate::status::Status;
 use crate::telling::{tell_fault, tell_usage};
-use crate::words::{Names, names_of};
+use crate::words::{Names, RunWords, Settings, asked_by};
 use edit_terms::{Case, Grid, Items, Outcome, Script};
 use memory::Memory;
 use run_ports::{Gate, Shelf, Sink};
@@ -30,8 +30,8 @@ use std::thread::Threads;
 
 /// Reads WORLD and SCRIPT, runs the script, saves the world as OUT and prints each command's reply.
 ///
-/// The words are those after the program's name. The runtime and the job hook serve the threads that
-/// later run the jobs.
+/// The words are those after the program's name. The runtime, the job hook and the number of workers
+/// serve the threads that later run the jobs.
 pub fn run<R: Threads + Wait + Sync, F: Shelf, K: Sink, G: Gate + Sync>(
     _rt: &R,
     alloc: Global,
@@ -60,16 +60,16 @@ fn run_words<F: Shelf, K: Sink>(
 ) -> Status
     ensures ending { Ends (map string_bytes words.now) (F.seen shelf.old) (F.seen shelf.new) (K.seen out.old) (K.seen out.new) result }
 {
-    let Some(names) = names_of(words) else {
+    let Some(asked) = asked_by(words) else {
         tell_usage(out);
         return Status::Usage;
     };
-    match prepare(alloc, &names, shelf) {
+    match prepare(alloc, &asked, shelf) {
         Err(status) => {
-            tell_fault(out, &names, &status);
+            tell_fault(out, &asked.names, &status);
             status
         }
-        Ok(prepared) => finish(&names, prepared, shelf, out),
+        Ok(prepared) => finish(&asked.names, prepared, shelf, out),
     }
 }
 
@@ -103,17 +103,17 @@ pub(crate) struct Prepared<'a> {
 /// Loads and reads the files, runs the script, and makes all that is to be saved and printed.
 fn prepare<'a, F: Shelf>(
     alloc: Global,
-    names: &Names<'a>,
+    words: &RunWords<'a>,
     shelf: &mut F,
 ) -> Result<Prepared<'a>, Status>
-    ensures prepared { IfOk result (IsPrepared (names_view names.now) (F.seen shelf.old).files) }
-    ensures cause { IfErr result (IsCause (names_view names.now) (F.seen shelf.old) (F.seen shelf.new)) }
+    ensures prepared { IfOk result (IsPrepared (asked_view words.now) (F.seen shelf.old).files) }
+    ensures cause { IfErr result (IsCause (names_view words.now.names) (F.seen shelf.old) (F.seen shelf.new)) }
     ensures stays { (F.seen shelf.new).files ≡ (F.seen shelf.old).files }
     ensures later { IsLater (F.seen shelf.old) (F.seen shelf.new) }
 {
-    let world = load_world(alloc, names, shelf)?;
-    let script = load_script(alloc, names, shelf)?;
-    match make(alloc, names, world, script) {
+    let world = load_world(alloc, &words.names, shelf)?;
+    let script = load_script(alloc, &words.names, shelf)?;
+    match make(alloc, words, world, script) {
         Err(Memory) => Err(Status::OutOfMemory),
         Ok(prepared) => Ok(prepared),
     }
@@ -122,37 +122,45 @@ fn prepare<'a, F: Shelf>(
 /// Runs the script over the world, and makes the file and the text.
 fn make<'a>(
     alloc: Global,
-    names: &Names<'a>,
+    words: &RunWords<'a>,
     world: World,
     script: Script,
 ) -> Result<Prepared<'a>, Memory>
-    requires grid { IsPlainGrid world.grid }
+    requires writable { IsWritable world.carried (world_of world.grid) }
+    requires few { length world.carried.loose ≤ world_limit }
     requires script { IsPlainScript script }
-    ensures { IfOk result (IsMade (names_view names.now) (loaded_of world) script) }
+    ensures { IfOk result (IsMade (asked_view words.now) (loaded_of world) script) }
 {
     let World { grid, carried } = world;
-    let case = case_of(alloc, grid, script)?;
+    grid.area().well_formed();
+    let case = case_of(alloc, &words.settings, grid, script)?;
     let outcome = run_scripts(alloc, &case)?;
     let text = text_of(alloc, &case, &outcome)?;
+    drop(case);
     let bytes = write_world(alloc, &carried, &outcome.world)?;
     let outputs = vec![in alloc;
         Output {
-            name: names.out,
+            name: words.names.out,
             bytes
         },
     ]?;
     Ok(Prepared { outputs, text })
 }
 
-/// The case of one script: seed 0, and a history of 15 edits.
-fn case_of(alloc: Global, opening: Grid, script: Script) -> Result<Case, Memory>
-    ensures { IfOk result (λ case. case ≡ record { opening = opening; scripts = script ∷ []; seed = 0; depth = 15 }) }
+/// The case of one script.
+fn case_of(
+    alloc: Global,
+    settings: &Settings,
+    opening: Grid,
+    script: Script,
+) -> Result<Case, Memory>
+    ensures { IfOk result (λ case. case ≡ record { opening = opening; scripts = script ∷ []; seed = settings.now.seed; depth = settings.now.depth }) }
 {
     Ok(Case {
         opening,
         scripts: Items::from_vec(vec![in alloc; script]?),
-        seed: 0,
-        depth: 15,
+        seed: settings.seed,
+        depth: settings.depth,
     })
 }
 

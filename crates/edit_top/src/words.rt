@@ -1,8 +1,17 @@
 //! The words that the program was called with.
 
-ghost use Rattle.std.specs.Prelude.{◌≡◌, map, string_bytes, option_map};
-ghost use Rattle.edit_top.specs.Words.{names_of, names_view};
+ghost use Rattle.std.specs.Prelude.{◌≡◌, ◌≤◌, map, string_bytes, option_map, if◌then◌else◌, Some, None, IfSome};
+ghost use Rattle.std.specs.Char.{is_ascii_digit};
+ghost use Rattle.std.specs.List.{list_all};
+ghost use Rattle.edit_top.specs.Words.{asked_by, asked_view, asked_with, names_view, is_digits, is_between, number_of, seed_of, workers_of, depth_of};
 ghost use Rattle.edit_top.specs.Status.{file_name};
+
+/// What the words of a run ask for.
+#[derive(Clone, Copy, Debug)]
+pub(crate) struct RunWords<'a> {
+    pub(crate) names: Names<'a>,
+    pub(crate) settings: Settings,
+}
 
 /// The files that a run names: the world to load, the file to save, and the script.
 #[derive(Clone, Copy, Debug)]
@@ -10,6 +19,14 @@ pub(crate) struct Names<'a> {
     pub(crate) world: &'a str,
     pub(crate) out: &'a str,
     pub(crate) script: &'a str,
+}
+
+/// The seed of random choices, how many workers run jobs, and how many edits a history keeps.
+#[derive(Clone, Copy, Debug)]
+pub(crate) struct Settings {
+    pub(crate) seed: u64,
+    pub(crate) workers: u32,
+    pub(crate) depth: u32,
 }
 
 impl Names<'_> {
@@ -25,22 +42,76 @@ impl Names<'_> {
     }
 }
 
-/// The names in the words `run WORLD OUT SCRIPT`. None exactly for other words.
-pub(crate) fn names_of(words: &[String]) -> Option<Names<'_>>
-    ensures { option_map names_view result ≡ names_of (map string_bytes words.now) }
+/// What the words `run WORLD OUT SEED WORKERS DEPTH SCRIPT` ask for. None exactly for other words.
+pub(crate) fn asked_by(words: &[String]) -> Option<RunWords<'_>>
+    ensures { option_map asked_view result ≡ asked_by (map string_bytes words.now) }
 {
     match words {
-        [call, world, out, script] => {
-            if call.as_str() == "run" {
-                Some(Names {
-                    world: world.as_str(),
-                    out: out.as_str(),
-                    script: script.as_str(),
-                })
-            } else {
-                None
+        [call, world, out, seed, workers, depth, script] => {
+            if call.as_str() != "run" {
+                return None;
             }
+            let names = Names {
+                world: world.as_str(),
+                out: out.as_str(),
+                script: script.as_str(),
+            };
+            asked_with(names, seed.as_str(), workers.as_str(), depth.as_str())
         }
         _ => None,
     }
+}
+
+/// These files, and the numbers of the three words.
+fn asked_with<'a>(names: Names<'a>, seed: &str, workers: &str, depth: &str) -> Option<RunWords<'a>>
+    ensures { option_map asked_view result ≡ asked_with (names_view names.entry) (seed_of seed.now) (workers_of workers.now) (depth_of depth.now) }
+{
+    let seed = number_of(seed, 20, 0, u64::MAX)?;
+    let workers = number_of(workers, 2, 1, 64)?;
+    let depth = number_of(depth, 4, 1, 1_000)?;
+    Some(RunWords {
+        names,
+        settings: Settings {
+            seed,
+            workers: workers as u32,
+            depth: depth as u32,
+        },
+    })
+}
+
+/// The number of a word of 1 to `most` digits, if it is one from `least` to `greatest`.
+fn number_of(word: &str, most: usize, least: u64, greatest: u64) -> Option<u64>
+    ensures number { result ≡ number_of most least greatest word.now }
+    ensures few { IfSome result (λ n. n ≤ greatest) }
+{
+    if !is_digits(word.as_bytes(), most) {
+        return None;
+    }
+    match word.parse::<u64>() {
+        Err(_too_large) => None,
+        Ok(value) => if_between(value, least, greatest),
+    }
+}
+
+fn if_between(value: u64, least: u64, greatest: u64) -> Option<u64>
+    ensures value { result ≡ (if is_between least greatest value then Some value else None) }
+    ensures few { IfSome result (λ n. n ≤ greatest) }
+{
+    if least <= value && value <= greatest {
+        Some(value)
+    } else {
+        None
+    }
+}
+
+fn is_digits(word: &[u8], most: usize) -> bool
+    ensures { result ≡ is_digits most word.now }
+{
+    !word.is_empty() && word.len() <= most && are_digits(word)
+}
+
+fn are_digits(word: &[u8]) -> bool
+    ensures { result ≡ list_all is_ascii_digit word.now }
+{
+    word.iter().all(|byte| byte.is_ascii_digit())
 }

@@ -1,6 +1,7 @@
 -- Reading from the front: what the bytes begin with, and the bytes behind it, or the first fault.
 use Rattle.std.specs.Prelude.{◌≡◌, ℕ, zero, suc, ◌+◌, ◌-◌, ◌*◌, ℤ, pos, negsuc, Bool, List, [], ◌∷◌, length, take, drop, Option, Some, None, Result, Ok, Err, nat_lt, if◌then◌else◌}
 use Rattle.std.specs.Int.{Width, w8, w16, w32, w64, byte_len, cast_signed}
+use Rattle.std.specs.Result.{result_ok}
 use Rattle.byteorder.specs.Endian.{big_number}
 use Rattle.nbt_tags.specs.declared.ending.Ending.{Ending}
 use Rattle.nbt_tags.specs.declared.ending.Ending.TheVariants as endings
@@ -302,6 +303,10 @@ decoded bytes = with_places (length bytes) (whole_root bytes)
 -- the row that is all of the bytes, in a compound of that depth, or their first fault
 abbrev pub decoded_row : ℕ → List ℕ → Result (List Named) NbtFault
 decoded_row depth bytes = with_places (length bytes) (whole_row depth bytes)
+
+-- the row that is all of the bytes, if they spell one
+abbrev pub row_spelled : ℕ → List ℕ → Option (List Named)
+row_spelled depth bytes = result_ok (whole_row depth bytes)
 
 -- ---- answers
 

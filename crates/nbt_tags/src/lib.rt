@@ -5,6 +5,7 @@
 #![tactic(auto)]
 
 mod arrays;
+mod copying;
 mod ending;
 mod fault;
 mod fields;
@@ -24,12 +25,12 @@ mod writing;
 pub use fault::NbtFault;
 pub use laws::{round_trip, steps_are_enough};
 pub use memory::Memory;
-pub use reading::{decode, decode_row};
+pub use reading::{decode, decode_row, read_row};
 pub use room::room_for;
 pub use sqlite_items::Items;
 pub use tag::{Named, Tag};
 pub use values::Values;
-pub use writing::{encode, encode_row};
+pub use writing::{append_row, encode, encode_row};
 
 #[cfg(test)]
 mod tests;

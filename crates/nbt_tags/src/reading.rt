@@ -4,7 +4,7 @@ ghost use Rattle.std.specs.Prelude.{◌≡◌, ◌<◌, ◌≤◌, ◌^◌, List
 ghost use Rattle.nbt_tags.specs.declared.tag.Named.{Named};
 ghost use Rattle.nbt_tags.specs.Spelling.{Spells, SpellsRow, max_depth};
 ghost use Rattle.nbt_tags.specs.WellFormed.{IsWellFormed, IsWellFormedRow};
-ghost use Rattle.nbt_tags.specs.Reading.{Gives, IsAnswer, fault_of, root_at, ended, whole_root, whole_row, decoded, decoded_row};
+ghost use Rattle.nbt_tags.specs.Reading.{Gives, IsAnswer, fault_of, root_at, ended, whole_root, whole_row, row_spelled, decoded, decoded_row};
 
 use crate::ending::Ending;
 use crate::fault::NbtFault;
@@ -12,6 +12,7 @@ use crate::fields::kind_at;
 use crate::flaw::{Cause, Failure, flaw_at};
 use crate::payload::{entry, row};
 use crate::tag::Named;
+use memory::Memory;
 use sqlite_items::Items;
 use std::alloc::Global;
 use std::collections::BTreeSet;
@@ -136,4 +137,17 @@ pub fn decode_row(alloc: Global, bytes: &[u8], depth: usize) -> Result<Items<Nam
     ensures exact { IsAnswer result (decoded_row depth bytes.now) }
 {
     decoded_row(alloc, bytes, depth)
+}
+
+/// The row of named tags that is all of the bytes, as it stands between the braces of a compound of that
+/// depth, however many bytes there are. None where they spell no row.
+pub fn read_row(alloc: Global, bytes: &[u8], depth: usize) -> Result<Option<Items<Named>>, Memory>
+    requires { depth ≤ max_depth }
+    ensures { IfOk result (λ row. row ≡ row_spelled depth bytes.now) }
+{
+    match whole_row(alloc, depth, bytes) {
+        Ok(row) => Ok(Some(row)),
+        Err(Failure::Flaw(_)) => Ok(None),
+        Err(Failure::Memory) => Err(Memory),
+    }
 }

@@ -1,6 +1,6 @@
 //! Writing named tags.
 
-ghost use Rattle.std.specs.Prelude.{◌≡◌, ℕ, IfOk};
+ghost use Rattle.std.specs.Prelude.{◌≡◌, ℕ, ◌++◌, IfOk, OnOk};
 ghost use Rattle.nbt_tags.specs.Spelling.{Spells, SpellsRow};
 ghost use Rattle.nbt_tags.specs.WellFormed.{IsWellFormed, IsWellFormedRow};
 ghost use Rattle.nbt_tags.specs.Written.{written, written_row};
@@ -32,4 +32,13 @@ pub fn encode_row(alloc: Global, row: &[Named]) -> Result<Vec<u8>, Memory>
     let mut bytes = Vec::new(alloc);
     put_row(&mut bytes, row)?;
     Ok(bytes)
+}
+
+/// Puts the written spelling of a row of named tags, as it stands between the braces of a compound, behind what
+/// is there. Takes no memory where the vector has room for it.
+pub fn append_row(out: &mut Vec<u8>, row: &[Named]) -> Result<(), Memory>
+    ensures { OnOk result (out.new.items ≡ out.old.items ++ written_row row.now) }
+{
+    put_row(out, row)?;
+    Ok(())
 }

@@ -1,1 +1,16 @@
+pub mod Lists
 pub mod OrderLemmas
+pub mod ExampleTerms
+pub mod Examples
+pub mod Tickets
+pub mod Earlier
+pub mod FoldLemmas
+pub mod EntityLemmas
+pub mod ChangeLemmas
+pub mod UndoLemmas
+pub mod HistoryExamples
+pub mod EntityExamples
+pub mod AccessExamples
+pub mod StackLemmas
+pub mod SessionLemmas
+pub mod LimitExamples

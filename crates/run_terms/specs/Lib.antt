@@ -1,6 +1,13 @@
 pub mod Workload
+pub mod Commands
 pub mod Session
 pub mod Order
+pub mod Change
 pub mod Effect
 pub mod Fold
 pub mod Reply
+pub mod Result
+pub mod Undo
+pub mod Entities
+pub mod Access
+pub mod Limits

@@ -4,11 +4,14 @@
 //! function that does nothing. The reference execution and the engine are held to these definitions.
 #![tactic(auto)]
 
-ghost use Rattle.std.specs.Prelude.{List, ℕ};
-ghost use Rattle.edit_terms.specs.declared.script.Script.{Script};
-ghost use Rattle.run_terms.specs.Order.{IsLegalOrder, IsWholeOrder};
+mod fold_laws;
+mod order_laws;
+mod session_laws;
+mod undo_laws;
 
-/// A whole order is legal.
-pub fn whole_orders_are_legal()
-    ensures { (scripts : List Script) (order : List ℕ) → IsWholeOrder scripts order → IsLegalOrder scripts order }
-{}
+pub use fold_laws::{entities_come_from_the_opening_world, worlds_follow_from_earlier_worlds};
+pub use order_laws::{tickets_are_named, whole_orders_are_legal};
+pub use session_laws::{
+    histories_keep_to_their_depth, refused_commands_change_nothing, stacked_copies_lie_apart,
+};
+pub use undo_laws::{redo_restores, undo_inverts, undo_restores};

@@ -1,19 +1,17 @@
 -- A grid's world in the words of its file: the states of its blocks are the grid's kinds by number.
-use Rattle.std.proofs.Common.{◌≡◌, ℕ, ◌<◌, ◌≤◌, Bool, true, List, [], ◌∷◌, length, map, take, get_or, All, refl, sym, ap, subst, ◌∙◌, arith}
+use Rattle.std.proofs.Common.{◌≡◌, ℕ, ◌<◌, ◌≤◌, Bool, true, List, [], ◌∷◌, length, map, take, All, refl, sym, ap, ◌∙◌, arith}
 use Rattle.std.specs.List.{range_with_len, list_all}
 use Rattle.std.proofs.lemmas.Bool.{eqb-true, ltb-true}
 use Rattle.std.proofs.lemmas.List.{length-map, get_or-map, take_all}
-use Rattle.std.proofs.lemmas.List.Elements.{All-head, All-tail, All-cons, All-filter, All-get_or, All-from_get_or}
+use Rattle.std.proofs.lemmas.List.Elements.{All-cons}
 use Rattle.std.proofs.lemmas.List.FromFn.{fill_by_all}
 use Rattle.std.specs.Prelude.{nat_lt}
 use Rattle.edit_terms.specs.Area.{volume}
 use Rattle.edit_terms.specs.StateText.{State, air}
 use Rattle.edit_terms.specs.World.{BlockContent}
 use Rattle.edit_terms.specs.Grid.{GridParts, world_of, is_numbered, state_of_cell, content_of_cell}
-use Rattle.edit_terms.specs.Same.{same_state}
 use Rattle.edit_terms.proofs.AreaLemmas.{and_both}
-use Rattle.block_palette.specs.Numbering.{distinct}
-use Rattle.sponge_schematic.specs.Schematic.{states_of, palette_of}
+use Rattle.sponge_schematic.specs.File.{states_of}
 use Rattle.sponge_schematic.specs.Numbers.{kind_of}
 
 map-map : {A B C : Type 0} (f : A → B) (h : B → C) (xs : List A) → map h (map f xs) ≡ map (λ x. h (f x)) xs
@@ -48,16 +46,3 @@ all_states g kinds cells i numbered these those le =
     ∙ ap (λ (ks : List State). map (kind_of ks) cells) these
     ∙ ap (map (kind_of g.kinds)) those
     ∙ sym (states_of_grid g (numbering_of g numbered).long)
-
--- a palette has only states of the world
-pub distinct_have : (P : State → Type 0) (xs : List State) → All P xs → All P (distinct same_state xs)
-unfolding distinct
-distinct_have P [] h = h
-distinct_have P (x ∷ xs) h = All-cons P x _ (All-head P x xs h) (All-filter _ P _ (distinct_have P xs (All-tail P x xs h)))
-
-pub palette_have : (P : State → Type 0) (g : GridParts) → IsNumbered g → All P g.kinds → All P (palette_of (world_of g))
-palette_have P g h kinds =
-    let states : All P (map (kind_of g.kinds) g.cells) = All-from_get_or P (map (kind_of g.kinds) g.cells) air (λ i lt.
-    let inside : i < length g.cells = omega (arith, length-map g.cells (kind_of g.kinds)) in
-    rw (get_or-map (kind_of g.kinds) g.cells i 0 air inside) (All-get_or P g.kinds (get_or g.cells i 0) air (All-get_or (λ n. n < length g.kinds) g.cells i 0 inside h.within) kinds)) in
-    distinct_have P (states_of (world_of g)) (subst (All P) (sym (states_of_grid g h.long)) states)

@@ -1,16 +1,17 @@
--- What reading a world's file promises.
-use Rattle.std.specs.Prelude.{ℕ, List}
+-- What reading a world's file promises beside what `schematic_of` says.
+use Rattle.std.specs.Prelude.{◌+◌, ◌^◌, ◌<◌, length}
 use Rattle.edit_terms.specs.Grid.{world_of}
+use Rattle.edit_terms.specs.World as terms
+use Rattle.block_entities.specs.FileEntities.{AreFileEntities, entity_count}
 use Rattle.sponge_schematic.specs.declared.loaded.World.{World}
-use Rattle.sponge_schematic.specs.declared.fault.WorldFault.{WorldFault}
-use Rattle.sponge_schematic.specs.declared.fault.WorldFault.TheVariants.{Unbuilt, Memory}
-use Rattle.sponge_schematic.specs.Schematic.{Loaded, IsFileOf}
+use Rattle.sponge_schematic.specs.Carried.{CarriedTags, Loaded}
 
--- the tags and the world of what was read
+-- what a file says beside its world, and its world
 abbrev pub loaded_of : World → Loaded
 loaded_of w = record { carried = w.carried; world = world_of w.grid }
 
--- Bytes are refused as unbuilt only where they are the plain file of no world.
-abbrev pub IsRefused : WorldFault → List ℕ → Type 0
-IsRefused Unbuilt bytes = (l : Loaded) → IsFileOf bytes l → ⊥
-IsRefused Memory bytes = Unit {0}
+-- A world whose entities a file can hold beside these tags: each can stand in a list, and with the loose entries they
+-- are fewer than 2^31, as a list's count says.
+pub record IsWritable (carried : CarriedTags) (w : terms.World) : Type 0 where
+  pub entities : AreFileEntities w
+  pub few : entity_count w + length carried.loose < 2 ^ 31

@@ -1,135 +1,99 @@
-//! Reading the fields of a file from the front: a field and the bytes after it.
-ghost use Rattle.std.specs.Prelude.{◌≡◌, length};
-ghost use Rattle.std.specs.Int.{w16, w32};
-ghost use Rattle.sponge_schematic.specs.Candidate.{Gives, behind, number_at, signed_at, short_at, count_at, int_at, corner_at, text_at, byte_at, varint_at};
+//! Looking up the tags of a schematic, and taking what each must hold.
 
-use crate::fault::WorldFault;
-use edit_terms::Pos;
+ghost use Rattle.std.specs.Prelude.{◌≡◌, find, option_copied};
+ghost use Rattle.sponge_schematic.specs.Answers.{Gives};
+ghost use Rattle.sponge_schematic.specs.Fields.{field_name, has_name, tag_named, required, int_of, size_of, bytes_of, row_of, int_field, size_field};
 
-/// The bytes behind the first `count`, which aren't looked at.
-pub(crate) fn behind(count: usize, bytes: &[u8]) -> Result<&[u8], WorldFault>
-    ensures { Gives (λ x. x.now) result (behind count bytes.now) }
+use crate::fault::{Field, WorldFault};
+use nbt_tags::{Named, Tag};
+
+fn entry_named<'a>(row: &'a [Named], name: &[u8]) -> Option<&'a Named>
+    ensures { option_copied result ≡ find (has_name name.now) row.now }
 {
-    if bytes.len() < count {
-        return Err(WorldFault::Unbuilt);
-    }
-    Ok(&bytes[count..])
+    row.iter().find(|entry| entry.name.as_slice() == name)
 }
 
-fn u16_at(bytes: &[u8]) -> Result<(u16, &[u8]), WorldFault>
-    ensures { Gives (λ x. (x.0, x.1.now)) result (number_at w16 bytes.now) }
+/// The tag of this name.
+fn tag_named<'a>(row: &'a [Named], name: &[u8]) -> Option<&'a Tag>
+    ensures { option_copied result ≡ tag_named name.now row.now }
 {
-    if bytes.len() < 2 {
-        return Err(WorldFault::Unbuilt);
-    }
-    let (front, rest) = bytes.split_at(2);
-    Ok((u16::from_be_bytes([front[0], front[1]]), rest))
-}
-
-fn u32_at(bytes: &[u8]) -> Result<(u32, &[u8]), WorldFault>
-    ensures { Gives (λ x. (x.0, x.1.now)) result (number_at w32 bytes.now) }
-{
-    if bytes.len() < 4 {
-        return Err(WorldFault::Unbuilt);
-    }
-    let (front, rest) = bytes.split_at(4);
-    let number = u32::from_be_bytes([front[0], front[1], front[2], front[3]]);
-    Ok((number, rest))
-}
-
-fn i32_at(bytes: &[u8]) -> Result<(i32, &[u8]), WorldFault>
-    ensures { Gives (λ x. (x.0, x.1.now)) result (signed_at bytes.now) }
-{
-    let (number, rest) = u32_at(bytes)?;
-    Ok((number.cast_signed(), rest))
-}
-
-/// The number of a Short of this name.
-#[tactic(auto, unfolding(crate::specs::Candidate::short_at))]
-pub(crate) fn short_at<'a>(name: &[u8], bytes: &'a [u8]) -> Result<(u16, &'a [u8]), WorldFault>
-    ensures { Gives (λ x. (x.0, x.1.now)) result (short_at name.now bytes.now) }
-{
-    let held = behind(name.len() + 3, bytes)?;
-    u16_at(held)
-}
-
-/// The number of an Int of this name, as a count.
-#[tactic(auto, unfolding(crate::specs::Candidate::count_at))]
-pub(crate) fn count_at<'a>(name: &[u8], bytes: &'a [u8]) -> Result<(u32, &'a [u8]), WorldFault>
-    ensures { Gives (λ x. (x.0, x.1.now)) result (count_at name.now bytes.now) }
-{
-    let held = behind(name.len() + 3, bytes)?;
-    u32_at(held)
-}
-
-/// The number of an Int of this name.
-#[tactic(auto, unfolding(crate::specs::Candidate::int_at))]
-pub(crate) fn int_at<'a>(name: &[u8], bytes: &'a [u8]) -> Result<(i32, &'a [u8]), WorldFault>
-    ensures { Gives (λ x. (x.0, x.1.now)) result (int_at name.now bytes.now) }
-{
-    let held = behind(name.len() + 3, bytes)?;
-    i32_at(held)
-}
-
-/// The three numbers of the IntArray `Offset`.
-#[tactic(auto, unfolding(crate::specs::Candidate::corner_at))]
-pub(crate) fn corner_at(bytes: &[u8]) -> Result<Pos, WorldFault>
-    ensures { Gives (λ x. x) result (corner_at bytes.now) }
-{
-    let held = behind(13, bytes)?;
-    let (x, rest) = i32_at(held)?;
-    let (y, rest) = i32_at(rest)?;
-    let (z, _rest) = i32_at(rest)?;
-    Ok(Pos { x, y, z })
-}
-
-/// A text behind its length.
-pub(crate) fn text_at(bytes: &[u8]) -> Result<(&[u8], &[u8]), WorldFault>
-    ensures { Gives (λ x. (x.0.now, x.1.now)) result (text_at bytes.now) }
-{
-    let (len, rest) = u16_at(bytes)?;
-    let len = usize::from(len);
-    if rest.len() < len {
-        return Err(WorldFault::Unbuilt);
-    }
-    Ok(rest.split_at(len))
-}
-
-fn byte_at(bytes: &[u8]) -> Result<(u8, &[u8]), WorldFault>
-    ensures { Gives (λ x. (x.0, x.1.now)) result (byte_at bytes.now) }
-{
-    match bytes {
-        [] => Err(WorldFault::Unbuilt),
-        [byte, rest @ ..] => Ok((*byte, rest)),
+    match entry_named(row, name) {
+        None => None,
+        Some(entry) => Some(&entry.tag),
     }
 }
 
-/// The number of a varint of at most four bytes.
-#[tactic(auto, unfolding(crate::specs::Candidate::varint_at))]
-pub(crate) fn varint_at(bytes: &[u8]) -> Result<(u32, &[u8]), WorldFault>
-    ensures { Gives (λ x. (x.0, x.1.now)) result (varint_at bytes.now) }
+/// The tag of a field, if it is there.
+pub(crate) fn field(row: &[Named], field: Field) -> Option<&Tag>
+    ensures { option_copied result ≡ tag_named (field_name field) row.now }
 {
-    let (a, rest) = byte_at(bytes)?;
-    if a < 128 {
-        return Ok((u32::from(a), rest));
+    tag_named(row, field.name().as_bytes())
+}
+
+/// The tag of a field, which must be there.
+pub(crate) fn required(row: &[Named], field: Field) -> Result<&Tag, WorldFault>
+    ensures { Gives (λ x. x.now) result (required field row.now) }
+{
+    match tag_named(row, field.name().as_bytes()) {
+        None => Err(WorldFault::Missing(field)),
+        Some(tag) => Ok(tag),
     }
-    let low = u32::from(a - 128);
-    let (b, rest) = byte_at(rest)?;
-    if b < 128 {
-        return Ok((low + 128 * u32::from(b), rest));
+}
+
+/// The number of an Int.
+pub(crate) fn int_of(field: Field, tag: &Tag) -> Result<i32, WorldFault>
+    ensures { Gives (λ x. x) result (int_of field tag.now) }
+{
+    match tag {
+        Tag::Int(number) => Ok(*number),
+        _ => Err(WorldFault::WrongType(field)),
     }
-    let middle = u32::from(b - 128);
-    let (c, rest) = byte_at(rest)?;
-    if c < 128 {
-        return Ok((low + 128 * (middle + 128 * u32::from(c)), rest));
+}
+
+/// The number of a Short, read as unsigned.
+fn size_of(field: Field, tag: &Tag) -> Result<u16, WorldFault>
+    ensures { Gives (λ x. x) result (size_of field tag.now) }
+{
+    match tag {
+        Tag::Short(number) => Ok(number.cast_unsigned()),
+        _ => Err(WorldFault::WrongType(field)),
     }
-    let high = u32::from(c - 128);
-    let (d, rest) = byte_at(rest)?;
-    if d < 128 {
-        return Ok((
-            low + 128 * (middle + 128 * (high + 128 * u32::from(d))),
-            rest,
-        ));
+}
+
+/// The bytes of a ByteArray.
+pub(crate) fn bytes_of(field: Field, tag: &Tag) -> Result<&[u8], WorldFault>
+    ensures { Gives (λ x. x.now) result (bytes_of field tag.now) }
+{
+    match tag {
+        Tag::ByteArray(bytes) => Ok(bytes.as_slice()),
+        _ => Err(WorldFault::WrongType(field)),
     }
-    Err(WorldFault::Unbuilt)
+}
+
+/// The named tags of a Compound.
+pub(crate) fn row_of(field: Field, tag: &Tag) -> Result<&[Named], WorldFault>
+    ensures { Gives (λ x. x.now) result (row_of field tag.now) }
+{
+    match tag {
+        Tag::Compound(row) => Ok(row.as_slice()),
+        _ => Err(WorldFault::WrongType(field)),
+    }
+}
+
+/// The number of a field that is an Int.
+#[tactic(auto, unfolding(crate::specs::Fields::int_field))]
+pub(crate) fn int_field(row: &[Named], field: Field) -> Result<i32, WorldFault>
+    ensures { Gives (λ x. x) result (int_field field row.now) }
+{
+    let tag = required(row, field)?;
+    int_of(field, tag)
+}
+
+/// The number of a field that is a Short, read as unsigned.
+#[tactic(auto, unfolding(crate::specs::Fields::size_field))]
+pub(crate) fn size_field(row: &[Named], field: Field) -> Result<u16, WorldFault>
+    ensures { Gives (λ x. x) result (size_field field row.now) }
+{
+    let tag = required(row, field)?;
+    size_of(field, tag)
 }

@@ -1,26 +1,35 @@
-//! World files of the Sponge Schematic Specification 2, read and written byte by byte.
+//! World files of the Sponge Schematic Specification 2, uncompressed, read and written byte by byte.
 //!
-//! It serves the top calls, which load a world, edit it and save it. It promises that a file which is read
-//! is exactly the file of the world that it gives, and that what is written is exactly the file of the
-//! world that is kept; for now of plain files alone, whose states have no properties.
+//! It serves the top calls, which load a world, edit it and save it. It promises that a file is read as
+//! exactly the world and the further tags that its bytes stand for, or refused with its first fault, and
+//! that what is written is exactly the file of a world and of the tags that were read beside it.
 #![tactic(auto)]
 
-mod candidate;
+mod block_data;
 mod carried;
 mod fault;
 mod fields;
-mod limits;
+mod file_tags;
+mod header;
 mod loaded;
+mod loading;
 mod numbering;
+mod others;
+mod palette;
+mod parts;
+mod places;
 mod reading;
-mod tags;
+mod root;
+mod round_trip;
+mod varint;
 mod writing;
 
 pub use carried::Carried;
-pub use fault::WorldFault;
+pub use fault::{Field, WorldFault};
 pub use loaded::World;
 pub use memory::Memory;
-pub use reading::{one_world_a_file, read_world};
+pub use reading::read_world;
+pub use round_trip::files_round_trip;
 pub use writing::write_world;
 
 #[cfg(test)]

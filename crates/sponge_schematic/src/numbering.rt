@@ -1,12 +1,12 @@
 //! Numbering a world's blocks by the first appearance of their states.
-ghost use Rattle.std.specs.Prelude.{◌≡◌, ◌++◌, [], ◌<◌, ◌-◌, ◌^◌, length, replicate, None, IfOk, OnOk, All};
+ghost use Rattle.std.specs.Prelude.{◌≡◌, ◌++◌, [], ◌<◌, ◌-◌, ◌^◌, length, replicate, None, IfOk, OnOk};
 ghost use Rattle.edit_terms.specs.Grid.{world_of};
 ghost use Rattle.edit_terms.specs.Same.{same_state};
 ghost use Rattle.block_palette.specs.Numbering.{number_in, with_entry};
-ghost use Rattle.sponge_schematic.specs.Schematic.{palette_of, block_data, IsPlainGrid};
-ghost use Rattle.sponge_schematic.specs.Varint.{varint};
+ghost use Rattle.sponge_schematic.specs.File.{states_once, block_data};
 ghost use Rattle.sponge_schematic.specs.Numbers.{IsTable, kind_of};
 
+use crate::varint::put_varint;
 use block_palette::Palette;
 use edit_terms::{BlockState, Grid};
 use memory::Memory;
@@ -17,10 +17,9 @@ pub(crate) fn number_blocks(
     alloc: Global,
     grid: &Grid,
 ) -> Result<(Palette<BlockState>, Vec<u8>), Memory>
-    requires { IsPlainGrid grid.now }
-    ensures palette { IfOk result (λ r. r.0 ≡ palette_of (world_of grid.now)) }
+    ensures palette { IfOk result (λ r. r.0 ≡ states_once (world_of grid.now)) }
     ensures data { IfOk result (λ r. r.1.items ≡ block_data (world_of grid.now)) }
-    ensures plain { IfOk result (λ r. All (λ s. s.properties ≡ []) r.0) }
+    ensures few { IfOk result (λ r. length r.0 < 2 ^ 31) }
 {
     let kinds = grid.kinds();
     let mut palette = Palette::new(alloc);
@@ -62,17 +61,4 @@ fn number_of(
     let number = palette.number(kinds[kind].copy(alloc)?)?;
     table[kind] = Some(number);
     Ok(number)
-}
-
-/// The shortest varint of a number.
-fn put_varint(out: &mut Vec<u8>, number: u32) -> Result<(), Memory>
-    ensures { OnOk result (out.new.items ≡ out.old.items ++ varint number) }
-{
-    let mut left = number;
-    while left >= 128 {
-        out.push((left % 128 + 128) as u8)?;
-        left /= 128;
-    }
-    out.push(left as u8)?;
-    Ok(())
 }

@@ -1,8 +1,12 @@
-ghost use Rattle.std.specs.Prelude.{◌≡◌, [], All, IfOk, OnOk};
-ghost use Rattle.sponge_schematic.specs.Schematic.{IsPlainGrid};
+ghost use Rattle.std.specs.Prelude.{◌≡◌, [], IfOk};
+ghost use Rattle.edit_terms.specs.Grid.{world_of};
+ghost use Rattle.sponge_schematic.specs.Read.{IsWritable};
 
-use crate::{Carried, World, WorldFault, read_world, write_world};
+use crate::{Carried, Field, World, WorldFault, read_world, write_world};
+use block_entities::entities_of_grids;
+use block_state::StateFault;
 use edit_terms::{BlockName, BlockState, Grid, Name, Pos, Properties, WorldBox};
+use nbt_tags::NbtFault;
 use std::alloc::Global;
 use std::process::Abort;
 use std::test::Fail;
@@ -29,73 +33,101 @@ const ONE_DIRT: [u8; 168] = [
     0x00,
 ];
 
-fn bare_state(alloc: Global, name: &[u8]) -> Result<BlockState, Fail>
-    ensures { IfOk result (λ s. s.properties ≡ []) }
-{
-    let name = Name::from_vec(Vec::from_slice(alloc, name)?);
-    let name = BlockName::from_name(name).ok_or("a block name")?;
-    let properties = Properties::from_pairs(Vec::new(alloc)).ok_or("no properties")?;
-    Ok(BlockState::new(name, properties))
-}
+/// The first bytes of its fields.
+const FIELDS: [usize; 46] = [
+    0, 1, 3, 12, 13, 15, 22, 26, 27, 29, 40, 44, 45, 47, 52, 54, 55, 57, 63, 65, 66, 68, 74, 76,
+    77, 79, 85, 89, 101, 102, 104, 114, 118, 119, 121, 128, 129, 131, 145, 149, 150, 151, 153, 162,
+    166, 167,
+];
 
-fn push_state(alloc: Global, states: &mut Vec<BlockState>, name: &[u8]) -> Result<(), Fail>
-    requires { All (λ s. s.properties ≡ []) states.old.items }
-    ensures { OnOk result (All (λ s. s.properties ≡ []) states.new.items) }
-{
-    states.push(bare_state(alloc, name)?)?;
-    Ok(())
-}
+// The tags of a schematic of one block, and for each what is refused in its place.
+const VERSION: &[u8] = b"\x03\0\x07Version\0\0\0\x02";
 
-fn bare_states(alloc: Global, names: &[&[u8]]) -> Result<Vec<BlockState>, Fail>
-    ensures { IfOk result (λ v. All (λ s. s.properties ≡ []) v.items) }
-{
-    let mut states = Vec::new(alloc);
-    for name in names {
-        push_state(alloc, &mut states, name)?;
-    }
-    Ok(states)
-}
+const DATA_VERSION: &[u8] = b"\x03\0\x0BDataVersion\0\0\x0A\x1A";
 
-fn plain_grid(
-    alloc: Global,
-    area: WorldBox,
-    kinds: Vec<BlockState>,
-    cells: Vec<u32>,
-) -> Result<Grid, Fail>
-    requires { All (λ s. s.properties ≡ []) kinds.items }
-    ensures { IfOk result IsPlainGrid }
-{
-    match Grid::from_parts(alloc, area, kinds, cells) {
-        Some(grid) => Ok(grid),
-        None => Err("the parts of a grid".into()),
-    }
-}
+const WIDTH: &[u8] = b"\x02\0\x05Width\0\x01";
+
+const HEIGHT: &[u8] = b"\x02\0\x06Height\0\x01";
+
+const LENGTH: &[u8] = b"\x02\0\x06Length\0\x01";
+
+const PALETTE: &[u8] = b"\x0A\0\x07Palette\x03\0\x0Fminecraft:stone\0\0\0\0\0";
+
+const BLOCK_DATA: &[u8] = b"\x07\0\x09BlockData\0\0\0\x01\0";
+
+const BAD_DATA_VERSION: &[u8] = b"\x02\0\x0BDataVersion\0\0";
+
+const BAD_WIDTH: &[u8] = b"\x03\0\x05Width\0\0\0\x01";
+
+const BAD_HEIGHT: &[u8] = b"\x03\0\x06Height\0\0\0\x01";
+
+const BAD_LENGTH: &[u8] = b"\x03\0\x06Length\0\0\0\x01";
+
+const BAD_OFFSET: &[u8] = b"\x03\0\x06Offset\0\0\0\0";
+
+const BAD_PALETTE: &[u8] = b"\x01\0\x07Palette\0";
+
+const BAD_BLOCK_DATA: &[u8] = b"\x01\0\x09BlockData\0";
+
+const BAD_LIST: &[u8] = b"\x09\0\x0DBlockEntities\x03\0\0\0\x01\0\0\0\0";
 
 fn one_dirt() -> &'static [u8] {
     &ONE_DIRT
 }
 
 fn read(rt: &impl Abort, alloc: Global, bytes: &[u8]) -> Result<World, WorldFault>
-    ensures { IfOk result (λ w. IsPlainGrid w.grid) }
+    ensures { IfOk result (λ w. IsWritable w.carried (world_of w.grid)) }
 {
-    assert!(rt; bytes.len() < 1_000_000);
+    assert!(rt; bytes.len() < 10_000_000);
     read_world(alloc, bytes)
 }
 
-/// The bytes with those from `at` to `end` exchanged for others.
-fn edited(alloc: Global, at: usize, end: usize, other: &[u8]) -> Result<Vec<u8>, Fail> {
-    let front = one_dirt().get(..at).ok_or("a place in the file")?;
-    let back = one_dirt().get(end..).ok_or("a place in the file")?;
-    let mut bytes = joined(alloc, front, other)?;
-    bytes.extend_from_slice(back)?;
+fn joined(alloc: Global, parts: &[&[u8]]) -> Result<Vec<u8>, Fail> {
+    let mut bytes = Vec::new(alloc);
+    for part in parts {
+        bytes.extend_from_slice(part)?;
+    }
     Ok(bytes)
 }
 
-fn joined(alloc: Global, front: &[u8], back: &[u8]) -> Result<Vec<u8>, Fail> {
-    let mut bytes = Vec::from_slice(alloc, front)?;
-    bytes.extend_from_slice(back)?;
+fn part(bytes: &[u8], from: usize, end: usize) -> Result<&[u8], Fail> {
+    Ok(bytes.get(from..end).ok_or("a part of the file")?)
+}
+
+/// The file of one block with the bytes from `at` to `end` exchanged for others.
+fn edited(alloc: Global, at: usize, end: usize, other: &[u8]) -> Result<Vec<u8>, Fail> {
+    let mut bytes = Vec::from_slice(alloc, part(one_dirt(), 0, at)?)?;
+    bytes.extend_from_slice(other)?;
+    bytes.extend_from_slice(part(one_dirt(), end, one_dirt().len())?)?;
     Ok(bytes)
 }
+
+/// A file whose root has these tags.
+fn file_of(alloc: Global, tags: &[&[u8]]) -> Result<Vec<u8>, Fail> {
+    let row = joined(alloc, tags)?;
+    joined(alloc, &[part(one_dirt(), 0, 12)?, &row, b"\0"])
+}
+
+/// A file of two blocks with these palette entries, block data and further tags.
+fn two_blocks(alloc: Global, entries: &[u8], data: &[u8], further: &[u8]) -> Result<Vec<u8>, Fail> {
+    let mut bytes = edited(alloc, 53, 168, b"\x02")?;
+    bytes.extend_from_slice(part(one_dirt(), 54, 128)?)?;
+    bytes.extend_from_slice(entries)?;
+    bytes.extend_from_slice(b"\0\x07\0\x09BlockData\0\0\0")?;
+    bytes.push(u8::try_from(data.len())?)?;
+    bytes.extend_from_slice(data)?;
+    bytes.extend_from_slice(further)?;
+    bytes.push(0)?;
+    Ok(bytes)
+}
+
+/// Reads the file and writes it again.
+fn again(rt: &impl Abort, alloc: Global, bytes: &[u8]) -> Result<Vec<u8>, Fail> {
+    let world = read(rt, alloc, bytes)?;
+    Ok(write_world(alloc, &world.carried, &world.grid)?)
+}
+
+const STONE: &[u8] = b"\x03\0\x0Fminecraft:stone\0\0\0\0";
 
 #[test]
 fn one_block_is_read_and_written(rt: HostRuntime) -> Result<(), Fail> {
@@ -104,7 +136,7 @@ fn one_block_is_read_and_written(rt: HostRuntime) -> Result<(), Fail> {
     let area = world.grid.area();
     assert_eq!(rt; area.least(), Pos { x: 0, y: 0, z: 0 });
     assert_eq!(rt; (area.width(), area.height(), area.length()), (1, 1, 1));
-    assert_eq!(rt; world.carried.data_version, 2586);
+    assert_eq!(rt; *world.carried.data_version(), 2586);
     let state = world
         .grid
         .get(Pos { x: 0, y: 0, z: 0 })
@@ -115,20 +147,390 @@ fn one_block_is_read_and_written(rt: HostRuntime) -> Result<(), Fail> {
     Ok(())
 }
 
-/// So many states, each of a name with its number.
-fn numbered_states(alloc: Global, count: u32) -> Result<Vec<BlockState>, Fail>
-    ensures { IfOk result (λ v. All (λ s. s.properties ≡ []) v.items) }
-{
-    let mut states = Vec::new(alloc);
-    for number in 0..count {
-        let name = format!(in alloc; "minecraft:b{number}")?;
-        push_state(alloc, &mut states, name.as_bytes())?;
+#[test]
+fn block_data_faults(rt: HostRuntime) -> Result<(), Fail> {
+    let alloc = rt.alloc();
+    let cases: [(&[u8], Option<WorldFault>); 13] = [
+        (b"\0\0", None),
+        (b"\x80\0\0", None),
+        (b"\x80\x80\x80\x80\0\0", None),
+        (b"", Some(WorldFault::ShortData { cells: 0 })),
+        (b"\0", Some(WorldFault::ShortData { cells: 1 })),
+        (b"\0\x80", Some(WorldFault::ShortData { cells: 1 })),
+        (b"\0\0\0", Some(WorldFault::LongData { bytes: 1 })),
+        (b"\0\x01", Some(WorldFault::BadIndex { cell: 1, value: 1 })),
+        (
+            b"\x01\x80",
+            Some(WorldFault::BadIndex { cell: 0, value: 1 }),
+        ),
+        (
+            b"\0\xFF\xFF\xFF\xFF\x07",
+            Some(WorldFault::BadIndex {
+                cell: 1,
+                value: 2_147_483_647,
+            }),
+        ),
+        (
+            b"\xAC\x02",
+            Some(WorldFault::BadIndex {
+                cell: 0,
+                value: 300,
+            }),
+        ),
+        (
+            b"\x80\x80\x80\x80\x80\0\0",
+            Some(WorldFault::BadVarint { byte: 0 }),
+        ),
+        (
+            b"\0\x80\x80\x80\x80\x08",
+            Some(WorldFault::BadVarint { byte: 1 }),
+        ),
+    ];
+    for (data, fault) in cases {
+        let bytes = two_blocks(alloc, STONE, data, b"")?;
+        assert_eq!(rt; read(&rt, alloc, &bytes).err(), fault, "{data:?}");
     }
-    Ok(states)
+    Ok(())
 }
 
-fn part(bytes: &[u8], from: usize, end: usize) -> Result<&[u8], Fail> {
-    Ok(bytes.get(from..end).ok_or("a part of the file")?)
+#[test]
+fn schematic_and_nbt_faults(rt: HostRuntime) -> Result<(), Fail> {
+    let alloc = rt.alloc();
+    let version = part(one_dirt(), 12, 26)?;
+    let cases: [(Vec<u8>, WorldFault); 7] = [
+        (edited(alloc, 0, 168, b"\x1F\x8B")?, WorldFault::Compressed),
+        (edited(alloc, 25, 26, b"\x03")?, WorldFault::Version(3)),
+        (
+            edited(alloc, 26, 44, b"")?,
+            WorldFault::Missing(Field::DataVersion),
+        ),
+        (
+            edited(alloc, 26, 26, version)?,
+            WorldFault::Nbt(NbtFault::Duplicate { at: 26 }),
+        ),
+        (
+            edited(alloc, 100, 168, b"")?,
+            WorldFault::Nbt(NbtFault::Short { at: 89 }),
+        ),
+        (
+            edited(alloc, 168, 168, b"\0")?,
+            WorldFault::Nbt(NbtFault::Trailing { at: 168 }),
+        ),
+        (
+            edited(alloc, 0, 168, b"")?,
+            WorldFault::Nbt(NbtFault::Short { at: 0 }),
+        ),
+    ];
+    for (bytes, fault) in cases.iter() {
+        assert_eq!(rt; read(&rt, alloc, bytes).err(), Some(*fault), "{fault}");
+    }
+    Ok(())
+}
+
+#[test]
+fn every_truncation_is_short(rt: HostRuntime) -> Result<(), Fail> {
+    let alloc = rt.alloc();
+    for length in 0..ONE_DIRT.len() {
+        let mut at = 0u32;
+        for field in FIELDS {
+            if field <= length {
+                at = field as u32;
+            }
+        }
+        let fault = read(&rt, alloc, part(one_dirt(), 0, length)?).err();
+        let wanted = WorldFault::Nbt(NbtFault::Short { at });
+        assert_eq!(rt; fault, Some(wanted), "at {length}");
+    }
+    Ok(())
+}
+
+/// Looks whether the file of these tags is refused with that fault.
+fn assert_refused(
+    rt: &impl Abort,
+    alloc: Global,
+    tags: &[&[u8]],
+    fault: WorldFault,
+) -> Result<(), Fail> {
+    let bytes = file_of(alloc, tags)?;
+    assert_eq!(rt; read(rt, alloc, &bytes).err(), Some(fault), "{fault}");
+    Ok(())
+}
+
+/// Where a check of the versions or the sizes fails, all later ones would fail too.
+#[test]
+fn versions_and_sizes_come_first(rt: HostRuntime) -> Result<(), Fail> {
+    let alloc = rt.alloc();
+    let later: [&[u8]; 4] = [BAD_OFFSET, BAD_PALETTE, BAD_BLOCK_DATA, BAD_LIST];
+    let behind = joined(alloc, &later)?;
+    let cases: [(&[&[u8]], WorldFault); 12] = [
+        (&[], WorldFault::Missing(Field::Version)),
+        (
+            &[b"\x02\0\x07Version\0\x02"],
+            WorldFault::WrongType(Field::Version),
+        ),
+        (
+            &[b"\x03\0\x07Version\xFF\xFF\xFF\xFF", BAD_DATA_VERSION],
+            WorldFault::Version(-1),
+        ),
+        (
+            &[VERSION, BAD_WIDTH],
+            WorldFault::Missing(Field::DataVersion),
+        ),
+        (
+            &[BAD_WIDTH, BAD_DATA_VERSION, VERSION],
+            WorldFault::WrongType(Field::DataVersion),
+        ),
+        (
+            &[VERSION, DATA_VERSION, BAD_HEIGHT],
+            WorldFault::Missing(Field::Width),
+        ),
+        (
+            &[VERSION, DATA_VERSION, BAD_WIDTH, BAD_HEIGHT],
+            WorldFault::WrongType(Field::Width),
+        ),
+        (
+            &[VERSION, DATA_VERSION, WIDTH, BAD_LENGTH],
+            WorldFault::Missing(Field::Height),
+        ),
+        (
+            &[VERSION, DATA_VERSION, WIDTH, BAD_HEIGHT, BAD_LENGTH],
+            WorldFault::WrongType(Field::Height),
+        ),
+        (
+            &[VERSION, DATA_VERSION, WIDTH, HEIGHT],
+            WorldFault::Missing(Field::Length),
+        ),
+        (
+            &[VERSION, DATA_VERSION, WIDTH, HEIGHT, BAD_LENGTH],
+            WorldFault::WrongType(Field::Length),
+        ),
+        (
+            &[
+                VERSION,
+                DATA_VERSION,
+                WIDTH,
+                HEIGHT,
+                b"\x02\0\x06Length\0\0",
+            ],
+            WorldFault::Empty,
+        ),
+    ];
+    for (tags, fault) in cases {
+        let front = joined(alloc, tags)?;
+        assert_refused(&rt, alloc, &[&front, &behind], fault)?;
+    }
+    Ok(())
+}
+
+/// The same of the box, the palette, the block data and the block entities.
+#[test]
+fn box_and_blocks_come_in_their_order(rt: HostRuntime) -> Result<(), Fail> {
+    let alloc = rt.alloc();
+    let sizes: [&[u8]; 3] = [WIDTH, HEIGHT, LENGTH];
+    let sizes = joined(alloc, &sizes)?;
+    let large = b"\x02\0\x05Width\xFF\xFF\x02\0\x06Height\xFF\xFF\x02\0\x06Length\xFF\xFF";
+    let cases: [(&[&[u8]], WorldFault); 14] = [
+        (
+            &[large, BAD_OFFSET, BAD_PALETTE, BAD_LIST],
+            WorldFault::TooLarge {
+                volume: 281_462_092_005_375,
+            },
+        ),
+        (
+            &[&sizes, BAD_OFFSET, BAD_PALETTE, BAD_LIST],
+            WorldFault::WrongType(Field::Offset),
+        ),
+        (
+            &[
+                &sizes,
+                b"\x0B\0\x06Offset\0\0\0\x02\0\0\0\0\0\0\0\0",
+                BAD_LIST,
+            ],
+            WorldFault::WrongType(Field::Offset),
+        ),
+        (
+            &[
+                &sizes,
+                b"\x0B\0\x06Offset\0\0\0\x03\0\0\0\0\0\0\x08\0\0\0\0\0",
+                BAD_PALETTE,
+                BAD_LIST,
+            ],
+            WorldFault::OutOfRange,
+        ),
+        (
+            &[&sizes, BAD_BLOCK_DATA, BAD_LIST],
+            WorldFault::Missing(Field::Palette),
+        ),
+        (
+            &[&sizes, BAD_PALETTE, BAD_BLOCK_DATA, BAD_LIST],
+            WorldFault::WrongType(Field::Palette),
+        ),
+        (
+            &[
+                &sizes,
+                b"\x0A\0\x07Palette\x03\0\x05stone\0\0\0\0\x01\0\x01A\0\0",
+                BAD_BLOCK_DATA,
+            ],
+            WorldFault::WrongType(Field::Palette),
+        ),
+        (
+            &[
+                &sizes,
+                b"\x0A\0\x07Palette\x03\0\x05stone\0\0\0\0\x03\0\x0Ba[b=1,b=2]A\0\0\0\0\0",
+                BAD_BLOCK_DATA,
+            ],
+            WorldFault::BadState {
+                index: 1,
+                fault: StateFault::BadProperty,
+            },
+        ),
+        (
+            &[
+                &sizes,
+                b"\x0A\0\x07Palette\x03\0\x0Aa[b=1,b=2]\0\0\0\0\x01\0\x01A\0\0",
+                BAD_BLOCK_DATA,
+            ],
+            WorldFault::BadState {
+                index: 0,
+                fault: StateFault::RepeatedKey,
+            },
+        ),
+        (
+            &[&sizes, PALETTE, BAD_LIST],
+            WorldFault::Missing(Field::BlockData),
+        ),
+        (
+            &[&sizes, PALETTE, BAD_BLOCK_DATA, BAD_LIST],
+            WorldFault::WrongType(Field::BlockData),
+        ),
+        (
+            &[
+                &sizes,
+                PALETTE,
+                b"\x07\0\x09BlockData\0\0\0\x02\0\0",
+                BAD_LIST,
+            ],
+            WorldFault::LongData { bytes: 1 },
+        ),
+        (
+            &[&sizes, PALETTE, BLOCK_DATA, BAD_LIST],
+            WorldFault::WrongType(Field::BlockEntities),
+        ),
+        (
+            &[&sizes, PALETTE, BLOCK_DATA, b"\x01\0\x0DBlockEntities\0"],
+            WorldFault::WrongType(Field::BlockEntities),
+        ),
+    ];
+    for (tags, fault) in cases {
+        let behind = joined(alloc, tags)?;
+        assert_refused(&rt, alloc, &[VERSION, DATA_VERSION, &behind], fault)?;
+    }
+    Ok(())
+}
+
+#[test]
+fn roots_that_are_no_schematic(rt: HostRuntime) -> Result<(), Fail> {
+    let alloc = rt.alloc();
+    let cases: [(&[u8], WorldFault); 5] = [
+        (b"\x0A\0\x09schematic\0", WorldFault::NotSchematic),
+        (b"\x0A\0\0\0", WorldFault::NotSchematic),
+        (b"\x01\0\x09Schematic\0", WorldFault::NotSchematic),
+        (b"\x1F\x8B\x08", WorldFault::Compressed),
+        (b"\x1F", WorldFault::Nbt(NbtFault::BadType { at: 0 })),
+    ];
+    for (bytes, fault) in cases {
+        assert_eq!(rt; read(&rt, alloc, bytes).err(), Some(fault), "{bytes:?}");
+    }
+    Ok(())
+}
+
+#[test]
+fn equal_palette_entries_become_one(rt: HostRuntime) -> Result<(), Fail> {
+    let alloc = rt.alloc();
+    let entries = b"\x03\0\x05stone\x7F\xFF\xFF\xFF\
+        \x03\0\x0Fminecraft:stone\0\0\0\x01\
+        \x03\0\x04dirt\0\0\0\x01\
+        \x03\0\x05glass\xFF\xFF\xFF\xFF";
+    let bytes = two_blocks(alloc, entries, b"\xFF\xFF\xFF\xFF\x07\x01", b"")?;
+    let wanted = two_blocks(alloc, STONE, b"\0\0", b"")?;
+    assert_eq!(rt; again(&rt, alloc, &bytes)?.as_slice(), wanted.as_slice());
+    Ok(())
+}
+
+/// Entries of the list BlockEntities: two of the block at 0,0,0, one that is outside, and one without Pos.
+const FIRST: &[u8] = b"\x01\0\x01A\x05\x0B\0\x03Pos\0\0\0\x03\0\0\0\0\0\0\0\0\0\0\0\0\0";
+
+const SECOND: &[u8] = b"\x0B\0\x03Pos\0\0\0\x03\0\0\0\0\0\0\0\0\0\0\0\0\x08\0\x02Id\0\x05chest\0";
+
+const OUTSIDE: &[u8] = b"\x0B\0\x03Pos\0\0\0\x03\0\0\0\x02\0\0\0\0\0\0\0\0\0";
+
+const LOOSE: &[u8] = b"\x08\0\x02Id\0\x05chest\0";
+
+const LIST: &[u8] = b"\x09\0\x0DBlockEntities\x0A\0\0\0";
+
+const OTHERS: &[u8] = b"\x0A\0\x08Metadata\x01\0\x01b\x01\x01\0\x01a\x02\0\x0B\0\x01z\0\0\0\0";
+
+#[test]
+fn last_entity_of_a_block_wins(rt: HostRuntime) -> Result<(), Fail> {
+    let alloc = rt.alloc();
+    let read: [&[u8]; 4] = [LIST, b"\x02", FIRST, SECOND];
+    let written: [&[u8]; 3] = [LIST, b"\x01", SECOND];
+    let bytes = two_blocks(alloc, STONE, b"\0\0", &joined(alloc, &read)?)?;
+    let wanted = two_blocks(alloc, STONE, b"\0\0", &joined(alloc, &written)?)?;
+    assert_eq!(rt; again(&rt, alloc, &bytes)?.as_slice(), wanted.as_slice());
+    Ok(())
+}
+
+/// What the writer would write is read and written byte for byte; a bare file has the blocks' entities alone.
+#[test]
+fn carried_tags_are_written_back(rt: HostRuntime) -> Result<(), Fail> {
+    let alloc = rt.alloc();
+    let tags: [&[u8]; 6] = [LIST, b"\x03", FIRST, LOOSE, OUTSIDE, OTHERS];
+    let empty: [&[u8]; 2] = [b"\x09\0\x0DBlockEntities\x01\0\0\0\0", OTHERS];
+    for further in [joined(alloc, &tags)?, joined(alloc, &empty)?] {
+        let bytes = two_blocks(alloc, STONE, b"\0\0", &further)?;
+        assert_eq!(rt; again(&rt, alloc, &bytes)?.as_slice(), bytes.as_slice());
+    }
+    let mixed: [&[u8]; 3] = [OTHERS, LIST, b"\x02"];
+    let further = joined(alloc, &[&joined(alloc, &mixed)?, LOOSE, FIRST])?;
+    let wanted: [&[u8]; 5] = [LIST, b"\x02", FIRST, LOOSE, OTHERS];
+    let bytes = two_blocks(alloc, STONE, b"\0\0", &further)?;
+    let wanted = two_blocks(alloc, STONE, b"\0\0", &joined(alloc, &wanted)?)?;
+    assert_eq!(rt; again(&rt, alloc, &bytes)?.as_slice(), wanted.as_slice());
+    Ok(())
+}
+
+fn bare_state(alloc: Global, name: &[u8]) -> Result<BlockState, Fail> {
+    let name = Name::from_vec(Vec::from_slice(alloc, name)?);
+    let name = BlockName::from_name(name).ok_or("a block name")?;
+    let properties = Properties::from_pairs(Vec::new(alloc)).ok_or("no properties")?;
+    Ok(BlockState::new(name, properties))
+}
+
+/// A grid without entities.
+fn plain_grid(
+    alloc: Global,
+    area: WorldBox,
+    kinds: Vec<BlockState>,
+    cells: Vec<u32>,
+) -> Result<Grid, Fail>
+    ensures { IfOk result (λ g. g.entities ≡ []) }
+{
+    match Grid::from_parts(alloc, area, kinds, cells) {
+        Some(grid) => Ok(grid),
+        None => Err("the parts of a grid".into()),
+    }
+}
+
+/// The file of a grid without entities and without further tags.
+fn bare_file(rt: &impl Abort, alloc: Global, grid: &Grid) -> Result<Vec<u8>, Fail>
+    requires { grid.now.entities ≡ [] }
+{
+    let carried = read(rt, alloc, one_dirt())?.carried.bare();
+    entities_of_grids();
+    grid.area().well_formed();
+    let _cells = grid.cells();
+    Ok(write_world(alloc, &carried, grid)?)
 }
 
 /// The states stand at the same positions in both worlds.
@@ -138,195 +540,31 @@ fn assert_same(rt: &impl Abort, a: &Grid, b: &Grid) -> Result<(), Fail> {
         let p = a.area().position(index).ok_or("a position of the box")?;
         let old = a.get(p).ok_or("a block")?;
         let new = b.get(p).ok_or("a block")?;
-        assert_eq!(rt; old.name(), new.name(), "at {index}");
+        assert!(rt; *old == *new, "at {index}");
     }
     Ok(())
 }
 
-/// Where some parts of the file of that box stand, and what they are.
-fn box_parts() -> [(usize, &'static [u8]); 10] {
-    [
-        (40, b"\xFF\xFF\xFF\xFE\x02".as_slice()),
-        (52, b"\x00\x21\x02".as_slice()),
-        (63, b"\x00\x04\x02".as_slice()),
-        (74, b"\x00\x12\x0B".as_slice()),
-        (
-            89,
-            b"\xFF\xFF\xFF\xEC\xFF\xFF\xFF\xFD\xFF\xFF\xFF\xFB".as_slice(),
-        ),
-        (114, b"\x00\x00\x00\x02".as_slice()),
-        (
-            128,
-            b"\x03\x00\x0Fminecraft:stone\x00\x00\x00\x00".as_slice(),
-        ),
-        (
-            150,
-            b"\x03\x00\x0Eminecraft:dirt\x00\x00\x00\x01\x00".as_slice(),
-        ),
-        (184, b"\x00\x00\x09\x48".as_slice()),
-        (2564, b"\x00".as_slice()),
-    ]
-}
-
-fn assert_parts(rt: &impl Abort, bytes: &[u8], data: &[u8]) -> Result<(), Fail> {
-    for (from, wanted) in box_parts() {
-        let found = bytes.get(from..).ok_or("a part of the file")?;
-        assert!(rt; found.starts_with(wanted), "at {from}");
-    }
-    let found = bytes.get(188..).ok_or("a part of the file")?;
-    assert!(rt; found.starts_with(data), "the block data");
-    assert_eq!(rt; bytes.len(), 2565);
-    Ok(())
-}
-
+/// A box over several chunks, each of its blocks of a state of its own.
 #[test]
-fn a_box_over_several_chunks_is_written_in_index_order(rt: HostRuntime) -> Result<(), Fail> {
+fn a_palette_of_100_000_states(rt: HostRuntime) -> Result<(), Fail> {
     let alloc = rt.alloc();
     let least = Pos {
         x: -20,
         y: -3,
         z: -5,
     };
-    let area = WorldBox::new(least, 33, 4, 18).ok_or("a world's box")?;
-    let names: [&[u8]; 4] = [
-        b"minecraft:stone",
-        b"minecraft:glass",
-        b"minecraft:dirt",
-        b"minecraft:stone",
-    ];
-    let kinds = bare_states(alloc, &names)?;
+    let area = WorldBox::new(least, 50, 20, 100).ok_or("a world's box")?;
+    let mut kinds = Vec::new(alloc);
     let mut cells = Vec::new(alloc);
-    let mut data = Vec::new(alloc);
-    for index in 0..area.volume() {
-        let is_dirt = index % 5 == 1 || index == 695;
-        cells.push(if is_dirt { 2 } else { index % 2 * 3 })?;
-        data.push(u8::from(is_dirt))?;
+    for number in 0..area.volume() {
+        let name = format!(in alloc; "minecraft:b{number}")?;
+        kinds.push(bare_state(alloc, name.as_bytes())?)?;
+        cells.push(area.volume() - 1 - number)?;
     }
     let grid = plain_grid(alloc, area, kinds, cells)?;
-    let carried = Carried { data_version: -2 };
-    let bytes = write_world(alloc, &carried, &grid)?;
-    assert_parts(&rt, &bytes, &data)?;
+    let bytes = bare_file(&rt, alloc, &grid)?;
     let world = read(&rt, alloc, &bytes)?;
-    assert_eq!(rt; world.carried.data_version, -2);
-    assert_eq!(rt; world.grid.kinds().len(), 2);
-    assert_same(&rt, &grid, &world.grid)?;
-    let placed = Pos {
-        x: -18,
-        y: -2,
-        z: -2,
-    };
-    let state = world.grid.get(placed).ok_or("a block")?;
-    assert_eq!(rt; state.name(), b"minecraft:dirt".as_slice());
-    Ok(())
-}
-
-#[test]
-fn long_varints_are_written_and_read(rt: HostRuntime) -> Result<(), Fail> {
-    let alloc = rt.alloc();
-    let least = Pos { x: 0, y: 0, z: 0 };
-    let area = WorldBox::new(least, 16_400, 1, 1).ok_or("a world's box")?;
-    let kinds = numbered_states(alloc, 16_400)?;
-    let mut cells = Vec::new(alloc);
-    for index in 0..16_400 {
-        cells.push(16_399 - index)?;
-    }
-    let grid = plain_grid(alloc, area, kinds, cells)?;
-    let carried = Carried { data_version: 0 };
-    let bytes = write_world(alloc, &carried, &grid)?;
-    let len = bytes.len();
-    assert!(rt; len > 32_700);
-    for (place, wanted) in [
-        (len - 32_689, [0x00, 0x01, 0x02]),
-        (len - 32_563, [0x7E, 0x7F, 0x80]),
-        (len - 32_561, [0x80, 0x01, 0x81]),
-        (len - 51, [0xFF, 0x7F, 0x80]),
-        (len - 49, [0x80, 0x80, 0x01]),
-        (len - 4, [0x8F, 0x80, 0x01]),
-    ] {
-        let found = bytes.get(place..).ok_or("a part of the file")?;
-        assert!(rt; found.starts_with(&wanted), "at {place} of {len}");
-    }
-    let world = read(&rt, alloc, &bytes)?;
+    assert_eq!(rt; world.grid.kinds().len(), 100_000);
     assert_same(&rt, &grid, &world.grid)
-}
-
-/// What is wrong after an edit of the file, and the edit: from where to where, and the new bytes.
-fn edits() -> [(&'static str, usize, usize, &'static [u8]); 16] {
-    [
-        ("empty", 0, 168, b""),
-        ("gzip", 0, 168, b"\x1F\x8B"),
-        ("a trailing byte", 168, 168, b"\x00"),
-        ("another name of the root", 11, 12, b"C"),
-        ("another version", 25, 26, b"\x03"),
-        ("no width", 52, 54, b"\x00\x00"),
-        ("off the map", 89, 91, b"\x7F\xFF"),
-        ("another count of entries", 117, 118, b"\x02"),
-        (
-            "a state with properties",
-            129,
-            145,
-            b"\x00\x13minecraft:dirt[a=b]",
-        ),
-        ("a name without a namespace", 129, 145, b"\x00\x04dirt"),
-        ("an entry of another number", 148, 149, b"\x01"),
-        (
-            "an unused entry",
-            149,
-            149,
-            b"\x03\x00\x03a:b\x00\x00\x00\x01",
-        ),
-        ("a varint that is too long", 165, 167, b"\x02\x80\x00"),
-        ("a number without an entry", 166, 167, b"\x01"),
-        ("no data", 165, 167, b"\x00"),
-        ("another tag", 167, 167, b"\x01\x00\x01a\x00"),
-    ]
-}
-
-#[test]
-fn other_bytes_are_unbuilt(rt: HostRuntime) -> Result<(), Fail> {
-    let alloc = rt.alloc();
-    let swapped = joined(alloc, part(one_dirt(), 54, 65)?, part(one_dirt(), 44, 54)?)?;
-    let bytes = edited(alloc, 44, 65, &swapped)?;
-    assert!(rt; is_unbuilt(&rt, alloc, &bytes), "another order of tags");
-    for (what, at, end, other) in edits() {
-        let bytes = edited(alloc, at, end, other)?;
-        assert!(rt; is_unbuilt(&rt, alloc, &bytes), "{what}");
-    }
-    for len in [1, 12, 43, 100, 128, 149, 163, 167] {
-        assert!(rt;
-            is_unbuilt(&rt, alloc, part(one_dirt(), 0, len)?),
-            "{len} bytes"
-        );
-    }
-    Ok(())
-}
-
-fn is_unbuilt(rt: &impl Abort, alloc: Global, bytes: &[u8]) -> bool {
-    matches!(read(rt, alloc, bytes), Err(WorldFault::Unbuilt))
-}
-
-/// Two blocks, of a palette of dirt and stone.
-#[test]
-fn numbers_go_by_first_appearance(rt: HostRuntime) -> Result<(), Fail> {
-    let alloc = rt.alloc();
-    let least = Pos { x: 0, y: 0, z: 0 };
-    let area = WorldBox::new(least, 2, 1, 1).ok_or("a world's box")?;
-    let names: [&[u8]; 2] = [b"minecraft:dirt", b"minecraft:stone"];
-    let mut cells = Vec::new(alloc);
-    cells.push(0)?;
-    cells.push(1)?;
-    let grid = plain_grid(alloc, area, bare_states(alloc, &names)?, cells)?;
-    let bytes = write_world(alloc, &Carried { data_version: 2586 }, &grid)?;
-    let front = part(&bytes, 0, 188)?;
-    for (data, is_plain) in [
-        (b"\x00\x01\x00", true),
-        (b"\x01\x00\x00", false),
-        (b"\x00\x00\x00", false),
-        (b"\x01\x01\x00", false),
-        (b"\x00\x02\x00", false),
-    ] {
-        let bytes = joined(alloc, front, data)?;
-        assert_eq!(rt; is_unbuilt(&rt, alloc, &bytes), !is_plain, "{data:?}");
-    }
-    Ok(())
 }

@@ -1,15 +1,16 @@
 -- Each turn numbers one more block.
-use Rattle.std.proofs.Common.{◌≡◌, ◌<◌, ◌≤◌, ◌+◌, ◌++◌, [], List, ℕ, refl, subst, All, length, map, get_or, take, ◌∙◌, sym, ap, arith}
+use Rattle.std.proofs.Common.{◌≡◌, ◌<◌, ◌≤◌, ◌+◌, ◌++◌, [], List, ℕ, refl, length, map, get_or, take, ◌∙◌, sym, ap, arith}
 use Rattle.std.specs.List.{flat_map}
 use Rattle.std.proofs.lemmas.List.{get_or-map, length-map, length-take, flat_map_more}
+use Rattle.edit_terms.specs.Area.{volume}
 use Rattle.edit_terms.specs.StateText.{State, air}
 use Rattle.edit_terms.specs.Same.{same_state, state_equivalence}
 use Rattle.block_palette.specs.Numbering.{number_in, with_entry, distinct, numbers}
 use Rattle.block_palette.proofs.Numbering.{distinct-nil, numbers-nil, length-distinct, distinct_next, numbers_next}
 use Rattle.sponge_schematic.specs.Varint.{varint}
 use Rattle.sponge_schematic.specs.Numbers.{kind_of}
-use Rattle.sponge_schematic.proofs.Table.{table_empty}
-use Rattle.sponge_schematic.proofs.Worlds.{all_states, numbering_of, palette_have}
+use Rattle.sponge_schematic.proofs.KindTable.{table_empty}
+use Rattle.sponge_schematic.proofs.Worlds.{all_states, numbering_of}
 use Rattle.sponge_schematic.proofs.numbering.number_blocks.Goals as goal
 
 pub loop-kind-init : goal.loop-kind-init
@@ -50,8 +51,10 @@ returns-clause-data c =
     ∙ ap (λ (xs : List State). flat_map varint (numbers same_state xs))
     (all_states c.args.grid.now c.kinds-kinds.result.now c.cells-kind-items.result.now c.loop-kind.kind-index c.cells-kind-items.ensures.numbered c.kinds-kinds.ensures c.cells-kind-items.ensures.cells c.loop-kind-test.false)
 
-pub returns-clause-plain : goal.returns-clause-plain
-returns-clause-plain c =
-    let is = c.loop-kind.invariant.palette_is
-    ∙ ap (distinct same_state) (all_states c.args.grid.now c.kinds-kinds.result.now c.cells-kind-items.result.now c.loop-kind.kind-index c.cells-kind-items.ensures.numbered c.kinds-kinds.ensures c.cells-kind-items.ensures.cells c.loop-kind-test.false) in
-    subst (All (λ s. s.properties ≡ [])) (sym is) (palette_have (λ s. s.properties ≡ []) c.args.grid.now (numbering_of c.args.grid.now c.cells-kind-items.ensures.numbered) c.requires.kinds)
+pub returns-clause-few : goal.returns-clause-few
+returns-clause-few c =
+    let cells = c.cells-kind-items.result.now in
+    let xs = take c.loop-kind.kind-index (map (kind_of c.kinds-kinds.result.now) cells) in
+    let count : length c.loop-kind.palette ≤ length xs = rw c.loop-kind.invariant.palette_is (length-distinct same_state xs) in
+    let long = (numbering_of c.args.grid.now c.cells-kind-items.ensures.numbered).long in
+    omega (arith, count, length-take c.loop-kind.kind-index (map (kind_of c.kinds-kinds.result.now) cells), length-map cells (kind_of c.kinds-kinds.result.now), long, ap length c.cells-kind-items.ensures.cells, c.volume.ensures.within, c.volume.ensures.value, ap volume c.area.ensures)

@@ -5,7 +5,7 @@ use Rattle.edit_terms.specs.StateText.{State, air}
 use Rattle.edit_terms.specs.Same.{same_state, state_decides}
 use Rattle.block_palette.specs.Numbering.{number_in}
 use Rattle.block_palette.proofs.Numbering.{slice_get-number}
-use Rattle.sponge_schematic.proofs.Table.{known_number, known_entries, table_set}
+use Rattle.sponge_schematic.proofs.KindTable.{known_number, known_entries, table_set}
 use Rattle.sponge_schematic.proofs.numbering.number_of.Goals as goal
 
 pub returns-in-Some-clause-number : goal.returns-in-Some-clause-number

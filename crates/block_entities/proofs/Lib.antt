@@ -1,0 +1,9 @@
+pub mod Local
+pub mod Places
+pub mod Rows
+pub mod GoodEntities
+pub mod Entries
+pub mod Lists
+pub mod GridEntities
+pub mod WorldEntries
+pub mod Again

@@ -1,0 +1,4 @@
+pub mod Entry
+pub mod Gathering
+pub mod FileEntities
+pub mod Spreading

@@ -1,0 +1,32 @@
+//! Block states as texts, turned, flipped and edited.
+//!
+//! It serves the readers and writers of files, masks and patterns, and the jobs that paste and replace
+//! blocks. A text is read as the one state that it stands for, or refused with its first fault, and each
+//! new state is exactly the one that the definitions of `edit_terms` give.
+#![tactic(auto)]
+
+mod applying;
+mod cuts;
+mod decimals;
+mod fault;
+mod listing;
+mod motion;
+mod pairs;
+mod reading;
+mod restating;
+mod sorting;
+mod term_fault;
+mod turned_words;
+mod turning;
+mod writing;
+
+pub use applying::apply;
+pub use fault::StateFault;
+pub use memory::Memory;
+pub use reading::read_state;
+pub use term_fault::TermFault;
+pub use turning::transform;
+pub use writing::write_state;
+
+#[cfg(test)]
+mod tests;

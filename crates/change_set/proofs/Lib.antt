@@ -1,0 +1,6 @@
+pub mod ChunkLemmas
+pub mod ListLemmas
+pub mod RunLemmas
+pub mod ReadLemmas
+pub mod KeptLemmas
+pub mod PartLemmas

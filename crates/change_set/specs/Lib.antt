@@ -1,0 +1,5 @@
+pub mod Chunk
+pub mod Changes
+pub mod Runs
+pub mod Kept
+pub mod Part

@@ -1,0 +1,52 @@
+-- What holds of the runs that changes are kept in.
+use Rattle.std.specs.Prelude.{◌≡◌, ℕ, ◌+◌, ◌<◌, ◌≤◌, Bool, true, ◌&&◌, ◌==◌, List, [], ◌∷◌, map, length, Some, slice_get}
+use Rattle.std.specs.List.{list_all}
+use Rattle.edit_terms.specs.declared.pos.Pos.{Pos}
+use Rattle.edit_terms.specs.Area.{Area, holds, index_of, position_of, volume}
+use Rattle.change_set.specs.Chunk.{chunk_part, place_in_chunk}
+use Rattle.change_set.specs.Changes.{changes_of, positions, rises, breaks, is_change}
+use Rattle.change_set.specs.declared.run.Run.{Run}
+use Rattle.change_set.specs.declared.proposed.Proposed.{Proposed}
+
+-- One run: its place among the changes, it has cells, and they are of one chunk's part.
+pub record IsRun (a : Area) (start : ℕ) (run : Run) : Type 0 where
+  pub start_is : run.start ≡ start
+  pub some : 0 < run.length
+  pub held : holds a run.first ≡ true
+  pub fits : place_in_chunk a run.first + run.length ≤ volume (chunk_part a run.first)
+
+-- each of the runs is one, and they start one behind the other from a place on
+abbrev pub AreRunsFrom : Area → ℕ → List Run → Type 0
+AreRunsFrom a start [] = Unit {0}
+AreRunsFrom a start (run ∷ runs) = IsRun a start run × AreRunsFrom a (start + run.length) runs
+
+-- What holds of the runs and of how many changes they are.
+pub record AreKept (a : Area) (runs : List Run) (count : ℕ) : Type 0 where
+  pub each : AreRunsFrom a 0 runs
+  pub count_is : count ≡ length (changes_of a runs)
+  pub rising : rises a (positions (changes_of a runs)) ≡ true
+  pub changing : list_all is_change (changes_of a runs) ≡ true
+  pub starts : map (λ run. run.start) runs ≡ breaks a (changes_of a runs)
+
+-- the position is the next cell behind a run
+abbrev pub follows : Area → Run → Pos → Bool
+follows a run p = holds (chunk_part a run.first) p && (index_of (chunk_part a run.first) p == place_in_chunk a run.first + run.length)
+
+-- the runs with so many more cells in the last one
+abbrev pub with_last_longer : List Run → ℕ → List Run
+with_last_longer [] more = []
+with_last_longer (run ∷ []) more = record run { length = run.length + more } ∷ []
+with_last_longer (run ∷ next ∷ runs) more = run ∷ with_last_longer (next ∷ runs) more
+
+-- the change of a run's cell
+abbrev pub cell_of_run : Area → Run → ℕ → Proposed
+cell_of_run a run j = record { at = position_of (chunk_part a run.first) (place_in_chunk a run.first + j); before = run.before; after = run.after }
+
+-- The run has the change at a place of the list, and its other changes stand before and behind that.
+pub record IsRunAt (a : Area) (list : List Proposed) (i : ℕ) (run : Run) : Type 0 where
+  pub from : run.start ≤ i
+  pub to : i < run.start + run.length
+  pub held : holds a run.first ≡ true
+  pub fits : place_in_chunk a run.first + run.length ≤ volume (chunk_part a run.first)
+  pub within : run.start + run.length ≤ length list
+  pub each : (j : ℕ) → j < run.length → slice_get list (run.start + j) ≡ Some (cell_of_run a run j)

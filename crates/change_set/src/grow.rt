@@ -1,0 +1,61 @@
+//! What is asked of runs, and how the last of them grows.
+ghost use Rattle.std.specs.Prelude.{◌≡◌, ◌+◌, ◌-◌, ◌^◌, ◌<◌, ◌≤◌, true, length, Some, slice_get, IfSome};
+ghost use Rattle.edit_terms.specs.Area.{holds, volume};
+ghost use Rattle.change_set.specs.Chunk.{chunk_part, place_in_chunk};
+ghost use Rattle.change_set.specs.Runs.{follows, with_last_longer, AreRunsFrom};
+ghost use Rattle.change_set.specs.Changes.{changes_of, goes_on_behind};
+
+use crate::chunk::chunk_part;
+use crate::run::Run;
+use edit_terms::{Content, Pos, WorldBox};
+
+/// Whether the position is the next cell behind the run.
+pub(crate) fn follows(area: &WorldBox, run: &Run, p: &Pos) -> bool
+    requires held { holds area.now run.now.first ≡ true }
+    requires fits { place_in_chunk area.now run.now.first + run.now.length ≤ volume (chunk_part area.now run.now.first) }
+    ensures { result ≡ follows area.now run.now p.now }
+{
+    let part = chunk_part(area, &run.first);
+    let Some(first) = part.index_of(run.first) else {
+        return false;
+    };
+    match part.index_of(*p) {
+        Some(place) => place == first + run.length,
+        None => false,
+    }
+}
+
+/// Whether a change at this position goes on where the runs end.
+pub(crate) fn goes_on(
+    area: &WorldBox,
+    runs: &[Run],
+    at: &Pos,
+    before: &Content,
+    after: &Content,
+) -> bool
+    requires { AreRunsFrom area.now 0 runs.now }
+    ensures { result ≡ goes_on_behind area.now (changes_of area.now runs.now) (record { at = at.now; before = before.now; after = after.now }) }
+{
+    area.well_formed();
+    let Some(run) = runs.last() else {
+        return false;
+    };
+    if !follows(area, run, at) {
+        return false;
+    }
+    if run.before != *before {
+        return false;
+    }
+    run.after == *after
+}
+
+/// Makes the last run longer.
+pub(crate) fn lengthen_last(runs: &mut Vec<Run>, more: u32)
+    requires some { 0 < length runs.old.items }
+    requires fits { IfSome (slice_get runs.old.items (length runs.old.items - 1)) (λ run. run.length + more < 2 ^ 32) }
+    ensures { runs.new.items ≡ with_last_longer runs.old.items more }
+{
+    let last = runs.as_slice().len() - 1;
+    let run = &mut runs[last];
+    run.length += more;
+}

@@ -1,0 +1,259 @@
+//! Small worlds of air and stone, and what their changes are kept in.
+use crate::{ChangeBuilder, Changes, Kept, Memory, Part, Proposed};
+use edit_terms::{
+    BlockName, BlockState, CellList, Content, Entity, Name, Pos, Properties, Source, WorldBox,
+};
+use std::alloc::Global;
+use std::sync::Arc;
+use std::test::Fail;
+
+/// The content of that name.
+fn block(alloc: Global, name: &str) -> Result<Content, Fail> {
+    let name = Name::from_vec(Vec::from_slice(alloc, name.as_bytes())?);
+    let name = BlockName::from_name(name).ok_or("a block name")?;
+    let properties = Properties::from_pairs(Vec::new(alloc)).ok_or("no properties")?;
+    Ok(Content {
+        state: BlockState::new(name, properties).share(alloc)?,
+        entity: None,
+    })
+}
+
+fn pos(x: i32, y: i32, z: i32) -> Pos {
+    Pos { x, y, z }
+}
+
+/// How many stretches of one content a list is walked in.
+fn stretches<L: CellList>(list: &L) -> u32 {
+    let mut count = 0;
+    let mut i = 0;
+    while i < list.len() {
+        i += list.reach(i);
+        count += 1;
+    }
+    count
+}
+
+/// The changes of each position of the box, or of a chunk of it, from one content to another.
+fn changed(
+    alloc: Global,
+    area: &WorldBox,
+    chunk: Option<u32>,
+    before: &Content,
+    after: &Content,
+) -> Result<Changes, Memory> {
+    let mut changes = ChangeBuilder::new(alloc, area);
+    for index in 0..area.volume() {
+        let Some(at) = area.position(index) else {
+            break;
+        };
+        if chunk.is_some() && area.chunk_of(at) != chunk {
+            continue;
+        }
+        changes.push(&at, before, after)?;
+    }
+    Ok(changes.finish())
+}
+
+/// For each position of the box a proposed change from air: to stone, or to air where that isn't wanted.
+fn proposed(
+    alloc: Global,
+    area: &WorldBox,
+    wanted: &[bool],
+    air: &Content,
+    stone: &Content,
+) -> Result<Changes, Memory> {
+    let mut cells = Vec::new(alloc);
+    for index in 0..area.volume() {
+        let Some(at) = area.position(index) else {
+            break;
+        };
+        let after = match wanted.get(index as usize) {
+            Some(true) => stone.copy(alloc)?,
+            _ => air.copy(alloc)?,
+        };
+        cells.push(Proposed {
+            at,
+            before: air.copy(alloc)?,
+            after,
+        })?;
+    }
+    Changes::between(alloc, area, &cells)
+}
+
+/// Counts the changes of a box, or of a chunk of it, from air to a block: the changes, their runs, and the
+/// stretches in which they are walked by the contents afterwards and before.
+fn counts(
+    alloc: Global,
+    least: Pos,
+    sizes: (u32, u32, u32),
+    chunk: Option<u32>,
+    to: &str,
+) -> Result<(u32, usize, u32, u32), Fail> {
+    let area = WorldBox::new(least, sizes.0, sizes.1, sizes.2).ok_or("a box")?;
+    let air = block(alloc, "minecraft:air")?;
+    let block = block(alloc, to)?;
+    let list = changed(alloc, &area, chunk, &air, &block)?;
+    let befores = list.befores();
+    Ok((
+        list.len(),
+        list.runs().len(),
+        stretches(&list),
+        stretches(&befores),
+    ))
+}
+
+#[test]
+fn change_lists_as_runs(rt: HostRuntime) -> Result<(), Fail> {
+    let to = "minecraft:stone";
+    for (least, sizes, chunk, changes, runs) in [
+        (pos(0, 0, 0), (16, 16, 16), None, 4096, 1),
+        (pos(-1, 0, -1), (17, 1, 17), Some(0), 1, 1),
+        (pos(-1, 0, -1), (17, 1, 17), Some(1), 16, 1),
+        (pos(-1, 0, -1), (17, 1, 17), Some(2), 16, 1),
+        (pos(-1, 0, -1), (17, 1, 17), Some(3), 256, 1),
+        (pos(0, 0, 0), (17, 2, 3), Some(0), 96, 1),
+        (pos(0, 0, 0), (17, 2, 3), Some(1), 6, 1),
+        (pos(0, 0, 0), (17, 2, 3), None, 102, 12),
+        (pos(16, 5, 16), (3, 2, 2), None, 12, 1),
+    ] {
+        let found = counts(rt.alloc(), least, sizes, chunk, to)?;
+        assert_eq!(rt; found, (changes, runs as usize, runs, runs));
+    }
+    let none = counts(rt.alloc(), pos(0, 0, 0), (4, 4, 4), None, "minecraft:air")?;
+    assert_eq!(rt; none, (0, 0, 0, 0));
+    Ok(())
+}
+
+/// The runs of the wanted changes of a box of 1, 5 and 1 blocks: the first one's height, start and length.
+fn wanted_runs(alloc: Global, wanted: &[bool]) -> Result<Vec<(i32, u32, u32)>, Fail> {
+    let area = WorldBox::new(pos(0, 0, 0), 1, 5, 1).ok_or("a box")?;
+    let air = block(alloc, "minecraft:air")?;
+    let stone = block(alloc, "minecraft:stone")?;
+    let list = proposed(alloc, &area, wanted, &air, &stone)?;
+    let mut runs = Vec::new(alloc);
+    for run in list.runs() {
+        if run.before == air && run.after == stone {
+            runs.push((run.first.y, run.start, run.length))?;
+        }
+    }
+    Ok(runs)
+}
+
+#[test]
+fn equal_contents_are_left_out(rt: HostRuntime) -> Result<(), Fail> {
+    let alloc = rt.alloc();
+    let runs = wanted_runs(alloc, &[false, true, true, false, false])?;
+    assert_eq!(rt; runs.as_slice(), [(1, 0, 2)].as_slice());
+    let runs = wanted_runs(alloc, &[true, false, true, true, true])?;
+    assert_eq!(rt; runs.as_slice(), [(0, 0, 1), (2, 1, 3)].as_slice());
+    let runs = wanted_runs(alloc, &[false, false, false, false, true])?;
+    assert_eq!(rt; runs.as_slice(), [(4, 0, 1)].as_slice());
+    Ok(())
+}
+
+/// What a list has at a place, through the bound: the position, whether it is that state, whether it has an
+/// entity, and how far it reaches.
+fn read<L: CellList>(list: &L, i: u32, state: &BlockState) -> Option<(Pos, bool, bool, u32)> {
+    if i >= list.len() {
+        return None;
+    }
+    let same = *list.state(i) == *state;
+    Some((list.at(i), same, list.entity(i).is_some(), list.reach(i)))
+}
+
+/// The changes of two blocks of a row from air to chests.
+fn chests(alloc: Global, air: &Content, chest: &Content) -> Result<Changes, Fail> {
+    let area = WorldBox::new(pos(-2, 7, 3), 3, 1, 1).ok_or("a box")?;
+    Ok(proposed(alloc, &area, &[true, false, true], air, chest)?)
+}
+
+#[test]
+fn lists_of_changes_are_read_by_place(rt: HostRuntime) -> Result<(), Fail> {
+    let alloc = rt.alloc();
+    let air = block(alloc, "minecraft:air")?;
+    let mut chest = block(alloc, "minecraft:chest")?;
+    let entity = Entity::new(Vec::from_slice(alloc, b"before")?, Vec::new(alloc));
+    chest.entity = Some(Arc::new(alloc, entity)?);
+    let list = chests(alloc, &air, &chest)?;
+    let befores = list.befores();
+    for (i, x) in [(0, -2), (1, 0)] {
+        assert_eq!(rt;
+            read(&list, i, &chest.state),
+            Some((pos(x, 7, 3), true, true, 1))
+        );
+        assert_eq!(rt;
+            read(&befores, i, &air.state),
+            Some((pos(x, 7, 3), true, false, 1))
+        );
+    }
+    assert_eq!(rt; read(&list, 2, &chest.state), None);
+    assert!(rt; list.entity(2).is_none());
+    Ok(())
+}
+
+/// Keeps four by four by four changes for a command that has none.
+fn keep(alloc: Global, kept: &mut Kept, source: Source) -> Result<(), Fail> {
+    let area = WorldBox::new(pos(0, 0, 0), 4, 4, 4).ok_or("a box")?;
+    let air = block(alloc, "minecraft:air")?;
+    let stone = block(alloc, "minecraft:stone")?;
+    let changes = changed(alloc, &area, None, &air, &stone)?;
+    if kept.get(source).is_some() {
+        return Err("some are kept already".into());
+    }
+    kept.put(source, changes)?;
+    Ok(())
+}
+
+#[test]
+fn changes_are_kept_by_command(rt: HostRuntime) -> Result<(), Fail> {
+    let mut kept = Kept::new(rt.alloc());
+    for (player, step) in [(1, 0), (0, 1), (0, 0), (2, 7)] {
+        keep(rt.alloc(), &mut kept, Source { player, step })?;
+    }
+    for (player, step, there) in [(0, 1, true), (0, 1, false), (1, 1, false), (2, 7, true)] {
+        let taken = kept.take(Source { player, step });
+        assert_eq!(rt; taken.is_some(), there);
+    }
+    for (player, step, there) in [(1, 0, true), (0, 0, true), (0, 1, false), (2, 7, false)] {
+        assert_eq!(rt; kept.get(Source { player, step }).is_some(), there);
+    }
+    Ok(())
+}
+
+/// A part of cells of stone at these positions.
+fn part(alloc: Global, positions: &[(i32, i32, i32)]) -> Result<Part, Fail> {
+    let mut cells = Vec::new(alloc);
+    for at in positions {
+        cells.push((pos(at.0, at.1, at.2), block(alloc, "minecraft:stone")?))?;
+    }
+    let source = Source { player: 3, step: 1 };
+    if cells.as_slice().len() >= 100 {
+        return Err("many cells".into());
+    }
+    Ok(Part::from_cells(source, 5, cells))
+}
+
+#[test]
+fn cells_are_sorted_and_found(rt: HostRuntime) -> Result<(), Fail> {
+    let alloc = rt.alloc();
+    let stone = block(alloc, "minecraft:stone")?;
+    let part = part(
+        alloc,
+        &[(1, 2, 0), (0, 0, 5), (-3, 2, 0), (4, -1, 9), (1, 0, -5)],
+    )?;
+    assert_eq!(rt; part.source(), Source { player: 3, step: 1 });
+    assert_eq!(rt; part.chunk(), 5);
+    for (i, at) in [
+        (0, pos(4, -1, 9)),
+        (1, pos(1, 0, -5)),
+        (2, pos(0, 0, 5)),
+        (3, pos(-3, 2, 0)),
+        (4, pos(1, 2, 0)),
+    ] {
+        assert_eq!(rt; part.find(&at), Some(i));
+        assert_eq!(rt; read(&part, i, &stone.state), Some((at, true, false, 1)));
+    }
+    assert_eq!(rt; part.find(&pos(0, 2, 0)), None);
+    assert_eq!(rt; read(&part, 5, &stone.state), None);
+    Ok(())
+}

@@ -1,0 +1,422 @@
+//! Whole runs over worlds of several blocks, with entities, and over files that are no world.
+
+use crate::fixtures::{Built, OLD, ONE_DIRT, Outside, SET_DIRT, joined, one_block};
+use std::alloc::Global;
+use std::process::Abort;
+use std::sync::Wait;
+use std::test::Fail;
+use std::thread::Threads;
+
+/// A layer over four chunks.
+fn layer<'a>(names: &'a [&'a str], data: &'a [u8]) -> Built<'a> {
+    Built {
+        sizes: [17, 1, 17],
+        least: [-1, 0, -1],
+        names,
+        data,
+        more: b"",
+    }
+}
+
+/// All is set to stone, and then the four blocks where the chunks meet to dirt.
+#[test]
+fn a_box_over_several_chunks_is_set(rt: HostRuntime) -> Result<(), Fail> {
+    let alloc = rt.alloc();
+    let air = layer(&["minecraft:air"], &[0; 289]).file(alloc)?;
+    let mut data = [1; 289];
+    data[0] = 0;
+    data[1] = 0;
+    data[17] = 0;
+    data[18] = 0;
+    let set = layer(&["minecraft:dirt", "minecraft:stone"], &data).file(alloc)?;
+    let script =
+        "player anna\n//pos1 -1,0,-1\n//pos2 15,0,15\n//set stone\n//pos1 0,0,-5\n//pos2 -1,2047,0\n//set dirt\n";
+    let text =
+        "0 anna 2 ok\n1 anna 3 ok\n2 anna 4 changed 289\n3 anna 5 ok\n4 anna 6 ok\n5 anna 7 changed 4\ndone 6\n";
+    let ended = Outside::steady(&air, script).run(&rt, alloc)?;
+    ended.assert_is(&rt, alloc, "Done", text, &set)
+}
+
+/// Appends the varint of a number below 16,384.
+fn push_varint(data: &mut Vec<u8>, number: u16) -> Result<(), Fail> {
+    if number < 128 {
+        data.push(u8::try_from(number)?)?;
+    } else {
+        data.push(u8::try_from(number % 128)? | 128)?;
+        data.push(u8::try_from(number / 128)?)?;
+    }
+    Ok(())
+}
+
+/// A row of blocks.
+fn row(alloc: Global, names: &[&str], data: &[u8]) -> Result<Vec<u8>, Fail> {
+    let built = Built {
+        sizes: [200, 1, 1],
+        least: [0, 0, 0],
+        names,
+        data,
+        more: b"",
+    };
+    built.file(alloc)
+}
+
+/// Of 200 blocks with a state each, one gets a new state and one the state of the first.
+#[test]
+fn a_palette_of_more_than_128_entries_is_kept(rt: HostRuntime) -> Result<(), Fail> {
+    let alloc = rt.alloc();
+    let mut all = Vec::new(alloc);
+    let mut data = Vec::new(alloc);
+    let mut set_data = Vec::new(alloc);
+    for number in 0..200u16 {
+        all.push(format!(in alloc; "minecraft:b{number}")?)?;
+        push_varint(&mut data, number)?;
+        let set_number = match number {
+            150 => 0,
+            151.. => number - 1,
+            _ => number,
+        };
+        push_varint(&mut set_data, set_number)?;
+    }
+    let mut names = Vec::new(alloc);
+    let mut set_names = Vec::new(alloc);
+    for (number, name) in all.iter().enumerate() {
+        names.push(name.as_str())?;
+        match number {
+            3 => set_names.push("minecraft:stone")?,
+            150 => {}
+            _ => set_names.push(name.as_str())?,
+        }
+    }
+    let world = row(alloc, &names, &data)?;
+    let set = row(alloc, &set_names, &set_data)?;
+    let script =
+        "player anna\n//pos1 3,0,0\n//pos2 3,0,0\n//set stone\n//pos1 150,0,0\n//pos2 150,0,0\n//set b0\n";
+    let text =
+        "0 anna 2 ok\n1 anna 3 ok\n2 anna 4 changed 1\n3 anna 5 ok\n4 anna 6 ok\n5 anna 7 changed 1\ndone 6\n";
+    Outside::steady(&world, script)
+        .run(&rt, alloc)?
+        .assert_is(&rt, alloc, "Done", text, &set)?;
+    Outside::steady(&world, "player anna\n")
+        .run(&rt, alloc)?
+        .assert_is(&rt, alloc, "Done", "done 0\n", &world)
+}
+
+/// What stands before the entries of a list of compounds, without its count.
+const ENTRIES: &[u8] = b"\x09\x00\x0DBlockEntities\x0A";
+
+/// The place of a block, as a tag: at the box's least corner.
+const AT_CORNER: &[u8] =
+    b"\x0B\x00\x03Pos\x00\x00\x00\x03\x00\x00\x00\x00\x00\x00\x00\x00\x00\x00\x00\x00";
+
+const CHEST: &[u8] = b"\x08\x00\x02Id\x00\x0Fminecraft:chest";
+
+const BARREL: &[u8] = b"\x08\x00\x02Id\x00\x10minecraft:barrel";
+
+/// The script that sets the block at 0,0,0, and the text of its run.
+fn set_first(alloc: Global, state: &str) -> Result<String, Fail> {
+    Ok(format!(in alloc; "player anna\n//pos1 0,0,0\n//pos2 0,0,0\n//set {state}\n")?)
+}
+
+const ONE_CHANGED: &str = "0 anna 2 ok\n1 anna 3 ok\n2 anna 4 changed 1\ndone 3\n";
+
+/// A world of one or three blocks in a row and a list of block entities, run with a script.
+fn assert_list(
+    rt: &(impl Threads + Wait + Sync + Abort),
+    alloc: Global,
+    before: &Built<'_>,
+    script: &str,
+    text: &str,
+    after: &Built<'_>,
+) -> Result<(), Fail> {
+    let world = before.file(alloc)?;
+    let wanted = after.file(alloc)?;
+    let ended = Outside::steady(&world, script).run(rt, alloc)?;
+    ended.assert_is(rt, alloc, "Done", text, &wanted)
+}
+
+/// A box of one block.
+fn block_with<'a>(names: &'a [&'a str], more: &'a [u8]) -> Built<'a> {
+    Built {
+        sizes: [1, 1, 1],
+        least: [0, 0, 0],
+        names,
+        data: &[0],
+        more,
+    }
+}
+
+/// The entry of the overwritten block goes, and the one that names no block stays.
+#[test]
+fn overwritten_block_entity_is_dropped(rt: HostRuntime) -> Result<(), Fail> {
+    let alloc = rt.alloc();
+    let two = joined(
+        alloc,
+        &[
+            ENTRIES,
+            b"\x00\x00\x00\x02",
+            CHEST,
+            AT_CORNER,
+            b"\x00",
+            BARREL,
+            b"\x00",
+        ],
+    )?;
+    let loose = joined(alloc, &[ENTRIES, b"\x00\x00\x00\x01", BARREL, b"\x00"])?;
+    let before = block_with(&["minecraft:stone"], &two);
+    let script = set_first(alloc, "dirt")?;
+    let after = block_with(&["minecraft:dirt"], &loose);
+    assert_list(&rt, alloc, &before, &script, ONE_CHANGED, &after)
+}
+
+#[test]
+fn set_of_equal_state_drops_entity(rt: HostRuntime) -> Result<(), Fail> {
+    let alloc = rt.alloc();
+    let two = joined(
+        alloc,
+        &[
+            ENTRIES,
+            b"\x00\x00\x00\x02",
+            AT_CORNER,
+            CHEST,
+            b"\x00",
+            BARREL,
+            b"\x00",
+        ],
+    )?;
+    let loose = joined(alloc, &[ENTRIES, b"\x00\x00\x00\x01", BARREL, b"\x00"])?;
+    let before = block_with(&["minecraft:stone"], &two);
+    let script = set_first(alloc, "stone")?;
+    let after = block_with(&["minecraft:stone"], &loose);
+    assert_list(&rt, alloc, &before, &script, ONE_CHANGED, &after)
+}
+
+/// Of three blocks, the first is a chest with an entity.
+fn chest_row<'a>(more: &'a [u8]) -> Built<'a> {
+    Built {
+        sizes: [3, 1, 1],
+        least: [0, 0, 0],
+        names: &["minecraft:chest", "minecraft:air"],
+        data: &[0, 1, 1],
+        more,
+    }
+}
+
+#[test]
+fn set_drops_block_entity(rt: HostRuntime) -> Result<(), Fail> {
+    let alloc = rt.alloc();
+    let one = joined(
+        alloc,
+        &[ENTRIES, b"\x00\x00\x00\x01", CHEST, AT_CORNER, b"\x00"],
+    )?;
+    let none = joined(alloc, &[ENTRIES, b"\x00\x00\x00\x00"])?;
+    let script = set_first(alloc, "chest")?;
+    assert_list(
+        &rt,
+        alloc,
+        &chest_row(&one),
+        &script,
+        ONE_CHANGED,
+        &chest_row(&none),
+    )
+}
+
+#[test]
+fn last_entity_of_a_block_wins(rt: HostRuntime) -> Result<(), Fail> {
+    let alloc = rt.alloc();
+    let two = joined(
+        alloc,
+        &[
+            ENTRIES,
+            b"\x00\x00\x00\x02",
+            CHEST,
+            AT_CORNER,
+            b"\x00",
+            BARREL,
+            AT_CORNER,
+            b"\x00",
+        ],
+    )?;
+    let last = joined(
+        alloc,
+        &[ENTRIES, b"\x00\x00\x00\x01", BARREL, AT_CORNER, b"\x00"],
+    )?;
+    assert_list(
+        &rt,
+        alloc,
+        &chest_row(&two),
+        "player anna\n",
+        "done 0\n",
+        &chest_row(&last),
+    )
+}
+
+/// What stands in a file before its palette: a box of 2 by 1 by 1 blocks.
+const TWO_BLOCKS: &[u8] = b"\x0A\x00\x09Schematic\x03\x00\x07Version\x00\x00\x00\x02\
+\x03\x00\x0BDataVersion\x00\x00\x0A\x1A\x02\x00\x05Width\x00\x02\x02\x00\x06Height\x00\x01\
+\x02\x00\x06Length\x00\x01\x0B\x00\x06Offset\x00\x00\x00\x03\
+\x00\x00\x00\x00\x00\x00\x00\x00\x00\x00\x00\x00";
+
+/// Entries that read as one state become one, entries without a block go, and other tags stay.
+#[test]
+fn equal_palette_entries_become_one(rt: HostRuntime) -> Result<(), Fail> {
+    let alloc = rt.alloc();
+    let metadata = b"\x0A\x00\x08Metadata\x01\x00\x01a\x07\x00".as_slice();
+    let world = joined(
+        alloc,
+        &[
+            TWO_BLOCKS,
+            b"\x03\x00\x0APaletteMax\x00\x00\x00\x63",
+            metadata,
+            b"\x0A\x00\x07Palette\x03\x00\x05stone\x00\x00\x00\x05",
+            b"\x03\x00\x0Fminecraft:stone\x00\x00\x00\x00\x03\x00\x04dirt\x00\x00\x00\x01\x00",
+            b"\x07\x00\x09BlockData\x00\x00\x00\x02\x05\x00\x00",
+        ],
+    )?;
+    let wanted = joined(
+        alloc,
+        &[
+            TWO_BLOCKS,
+            b"\x03\x00\x0APaletteMax\x00\x00\x00\x01",
+            b"\x0A\x00\x07Palette\x03\x00\x0Fminecraft:stone\x00\x00\x00\x00\x00",
+            b"\x07\x00\x09BlockData\x00\x00\x00\x02\x00\x00",
+            metadata,
+            b"\x00",
+        ],
+    )?;
+    let ended = Outside::steady(&world, "player anna\n").run(&rt, alloc)?;
+    ended.assert_is(&rt, alloc, "Done", "done 0\n", &wanted)
+}
+
+/// Each fault of a world's file has its message.
+#[test]
+fn faults_of_worlds_are_told(rt: HostRuntime) -> Result<(), Fail> {
+    let alloc = rt.alloc();
+    let stone = one_block(alloc, "minecraft:stone")?;
+    let no_name = one_block(alloc, "Stone")?;
+    let no_property = one_block(alloc, "stone[a]")?;
+    let short = Built {
+        data: &[],
+        ..block_with(&["stone"], b"")
+    };
+    let long = Built {
+        data: &[0, 0, 0],
+        ..block_with(&["stone"], b"")
+    };
+    let no_number = Built {
+        data: &[7],
+        ..block_with(&["stone"], b"")
+    };
+    let bad_varint = Built {
+        data: &[128, 128, 128, 128, 128, 0],
+        ..block_with(&["stone"], b"")
+    };
+    let empty = Built {
+        sizes: [1, 0, 1],
+        ..block_with(&["stone"], b"")
+    };
+    let large = Built {
+        sizes: [65_535, 512, 2],
+        ..block_with(&["stone"], b"")
+    };
+    let far = Built {
+        least: [0, 2048, 0],
+        ..block_with(&["stone"], b"")
+    };
+    let mut deep = b"\x09\x00\x00".to_vec(alloc)?;
+    for _ in 0..512 {
+        deep.extend_from_slice(b"\x09\x00\x00\x00\x01")?;
+    }
+    let start = if stone.len() < 100 {
+        &stone[..]
+    } else {
+        &stone[..100]
+    };
+    for (world, fault, text) in [
+        (
+            deep.as_slice(),
+            "Nbt(Deep { at: 2563 })",
+            "nbt deep at 2563",
+        ),
+        (b"\x1F\x8B\x08", "Compressed", "compressed"),
+        (b"", "Nbt(Short { at: 0 })", "nbt short at 0"),
+        (b"\x0D", "Nbt(BadType { at: 0 })", "nbt type at 0"),
+        (
+            b"\x07\x00\x00\x80\x00\x00\x00",
+            "Nbt(BadCount { at: 3 })",
+            "nbt count at 3",
+        ),
+        (
+            b"\x0A\x00\x00\x01\x00\x00\x07\x01\x00\x00\x07\x00",
+            "Nbt(Duplicate { at: 7 })",
+            "nbt duplicate at 7",
+        ),
+        (
+            b"\x01\x00\x00\x07\x00",
+            "Nbt(Trailing { at: 4 })",
+            "nbt trailing at 4",
+        ),
+        (b"\x01\x00\x00\x07", "NotSchematic", "not a schematic"),
+        (
+            b"\x0A\x00\x09Schematic\x00",
+            "Missing(Version)",
+            "missing Version",
+        ),
+        (
+            b"\x0A\x00\x09Schematic\x02\x00\x07Version\x00\x02\x00",
+            "WrongType(Version)",
+            "wrong type Version",
+        ),
+        (
+            b"\x0A\x00\x09Schematic\x03\x00\x07Version\xFF\xFF\xFF\xFD\x00",
+            "Version(-3)",
+            "version -3",
+        ),
+        (&empty.file(alloc)?, "Empty", "empty"),
+        (
+            &large.file(alloc)?,
+            "TooLarge { volume: 67107840 }",
+            "too large 67107840",
+        ),
+        (&far.file(alloc)?, "OutOfRange", "out of range"),
+        (
+            &no_name,
+            "BadState { index: 0, fault: BadName }",
+            "palette entry 0: bad name",
+        ),
+        (
+            &no_property,
+            "BadState { index: 0, fault: BadProperty }",
+            "palette entry 0: bad property",
+        ),
+        (
+            &no_number.file(alloc)?,
+            "BadIndex { cell: 0, value: 7 }",
+            "cell 0: no palette number 7",
+        ),
+        (
+            &short.file(alloc)?,
+            "ShortData { cells: 0 }",
+            "block data short after 0 cells",
+        ),
+        (
+            &long.file(alloc)?,
+            "LongData { bytes: 2 }",
+            "block data has 2 bytes too many",
+        ),
+        (
+            &bad_varint.file(alloc)?,
+            "BadVarint { byte: 0 }",
+            "bad varint at 0",
+        ),
+        (start, "Nbt(Short { at: 89 })", "nbt short at 89"),
+    ] {
+        let status = format!(in alloc; "WorldRefused {{ fault: {fault} }}")?;
+        let message = format!(in alloc; "fault: world: {text}\n")?;
+        Outside::steady(world, SET_DIRT)
+            .run(&rt, alloc)?
+            .assert_is(&rt, alloc, &status, &message, OLD)?;
+    }
+    Outside::steady(&ONE_DIRT, "player anna\n")
+        .run(&rt, alloc)?
+        .assert_is(&rt, alloc, "Done", "done 0\n", &ONE_DIRT)
+}
