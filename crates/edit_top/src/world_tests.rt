@@ -287,6 +287,14 @@ fn equal_palette_entries_become_one(rt: HostRuntime) -> Result<(), Fail> {
     ended.assert_is(&rt, alloc, "Done", "done 0\n", &wanted)
 }
 
+/// The first 100 bytes, or all if they are fewer.
+fn beginning(bytes: &[u8]) -> &[u8] {
+    if bytes.len() < 100 {
+        return bytes;
+    }
+    &bytes[..100]
+}
+
 /// Each fault of a world's file has its message.
 #[test]
 fn faults_of_worlds_are_told(rt: HostRuntime) -> Result<(), Fail> {
@@ -326,11 +334,7 @@ fn faults_of_worlds_are_told(rt: HostRuntime) -> Result<(), Fail> {
     for _ in 0..512 {
         deep.extend_from_slice(b"\x09\x00\x00\x00\x01")?;
     }
-    let start = if stone.len() < 100 {
-        &stone[..]
-    } else {
-        &stone[..100]
-    };
+    let start = beginning(&stone);
     for (world, fault, text) in [
         (
             deep.as_slice(),
