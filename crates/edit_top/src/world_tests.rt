@@ -287,6 +287,21 @@ fn equal_palette_entries_become_one(rt: HostRuntime) -> Result<(), Fail> {
     ended.assert_is(&rt, alloc, "Done", "done 0\n", &wanted)
 }
 
+/// A run over this file refuses it with this fault, which has this message, and leaves OUT as it was.
+fn assert_refused(
+    rt: &(impl Threads + Wait + Abort + Sync),
+    alloc: Global,
+    world: &[u8],
+    fault: &str,
+    text: &str,
+) -> Result<(), Fail> {
+    let status = format!(in alloc; "WorldRefused {{ fault: {fault} }}")?;
+    let message = format!(in alloc; "fault: world: {text}\n")?;
+    Outside::steady(world, SET_DIRT)
+        .run(rt, alloc)?
+        .assert_is(rt, alloc, &status, &message, OLD)
+}
+
 /// The first 100 bytes, or all if they are fewer.
 fn beginning(bytes: &[u8]) -> &[u8] {
     if bytes.len() < 100 {
@@ -295,46 +310,15 @@ fn beginning(bytes: &[u8]) -> &[u8] {
     &bytes[..100]
 }
 
-/// Each fault of a world's file has its message.
+/// Each fault of a file that spells no tag has its message.
 #[test]
-fn faults_of_worlds_are_told(rt: HostRuntime) -> Result<(), Fail> {
+fn faults_of_tags_are_told(rt: HostRuntime) -> Result<(), Fail> {
     let alloc = rt.alloc();
-    let stone = one_block(alloc, "minecraft:stone")?;
-    let no_name = one_block(alloc, "Stone")?;
-    let no_property = one_block(alloc, "stone[a]")?;
-    let short = Built {
-        data: &[],
-        ..block_with(&["stone"], b"")
-    };
-    let long = Built {
-        data: &[0, 0, 0],
-        ..block_with(&["stone"], b"")
-    };
-    let no_number = Built {
-        data: &[7],
-        ..block_with(&["stone"], b"")
-    };
-    let bad_varint = Built {
-        data: &[128, 128, 128, 128, 128, 0],
-        ..block_with(&["stone"], b"")
-    };
-    let empty = Built {
-        sizes: [1, 0, 1],
-        ..block_with(&["stone"], b"")
-    };
-    let large = Built {
-        sizes: [65_535, 512, 2],
-        ..block_with(&["stone"], b"")
-    };
-    let far = Built {
-        least: [0, 2048, 0],
-        ..block_with(&["stone"], b"")
-    };
     let mut deep = b"\x09\x00\x00".to_vec(alloc)?;
     for _ in 0..512 {
         deep.extend_from_slice(b"\x09\x00\x00\x00\x01")?;
     }
-    let start = beginning(&stone);
+    let cut = one_block(alloc, "minecraft:stone")?;
     for (world, fault, text) in [
         (
             deep.as_slice(),
@@ -359,7 +343,36 @@ fn faults_of_worlds_are_told(rt: HostRuntime) -> Result<(), Fail> {
             "Nbt(Trailing { at: 4 })",
             "nbt trailing at 4",
         ),
-        (b"\x01\x00\x00\x07", "NotSchematic", "not a schematic"),
+        (beginning(&cut), "Nbt(Short { at: 89 })", "nbt short at 89"),
+    ] {
+        assert_refused(&rt, alloc, world, fault, text)?;
+    }
+    Ok(())
+}
+
+/// Each fault of a file whose tag is no schematic has its message.
+#[test]
+fn faults_of_schematics_are_told(rt: HostRuntime) -> Result<(), Fail> {
+    let alloc = rt.alloc();
+    let block = block_with(&["stone"], b"");
+    let empty = Built {
+        sizes: [1, 0, 1],
+        ..block
+    };
+    let large = Built {
+        sizes: [65_535, 512, 2],
+        ..block
+    };
+    let far = Built {
+        least: [0, 2048, 0],
+        ..block
+    };
+    for (world, fault, text) in [
+        (
+            b"\x01\x00\x00\x07".as_slice(),
+            "NotSchematic",
+            "not a schematic",
+        ),
         (
             b"\x0A\x00\x09Schematic\x00",
             "Missing(Version)",
@@ -375,51 +388,72 @@ fn faults_of_worlds_are_told(rt: HostRuntime) -> Result<(), Fail> {
             "Version(-3)",
             "version -3",
         ),
-        (&empty.file(alloc)?, "Empty", "empty"),
+        (empty.file(alloc)?.as_slice(), "Empty", "empty"),
         (
-            &large.file(alloc)?,
+            large.file(alloc)?.as_slice(),
             "TooLarge { volume: 67107840 }",
             "too large 67107840",
         ),
-        (&far.file(alloc)?, "OutOfRange", "out of range"),
+        (far.file(alloc)?.as_slice(), "OutOfRange", "out of range"),
+    ] {
+        assert_refused(&rt, alloc, world, fault, text)?;
+    }
+    Ok(())
+}
+
+/// Each fault of a schematic's palette or block data has its message.
+#[test]
+fn faults_of_blocks_are_told(rt: HostRuntime) -> Result<(), Fail> {
+    let alloc = rt.alloc();
+    for (name, fault, text) in [
         (
-            &no_name,
+            "Stone",
             "BadState { index: 0, fault: BadName }",
             "palette entry 0: bad name",
         ),
         (
-            &no_property,
+            "stone[a]",
             "BadState { index: 0, fault: BadProperty }",
             "palette entry 0: bad property",
         ),
+    ] {
+        assert_refused(&rt, alloc, &one_block(alloc, name)?, fault, text)?;
+    }
+    for (data, fault, text) in [
         (
-            &no_number.file(alloc)?,
+            [7].as_slice(),
             "BadIndex { cell: 0, value: 7 }",
             "cell 0: no palette number 7",
         ),
         (
-            &short.file(alloc)?,
+            &[],
             "ShortData { cells: 0 }",
             "block data short after 0 cells",
         ),
         (
-            &long.file(alloc)?,
+            &[0, 0, 0],
             "LongData { bytes: 2 }",
             "block data has 2 bytes too many",
         ),
         (
-            &bad_varint.file(alloc)?,
+            &[128, 128, 128, 128, 128, 0],
             "BadVarint { byte: 0 }",
             "bad varint at 0",
         ),
-        (start, "Nbt(Short { at: 89 })", "nbt short at 89"),
     ] {
-        let status = format!(in alloc; "WorldRefused {{ fault: {fault} }}")?;
-        let message = format!(in alloc; "fault: world: {text}\n")?;
-        Outside::steady(world, SET_DIRT)
-            .run(&rt, alloc)?
-            .assert_is(&rt, alloc, &status, &message, OLD)?;
+        let block = Built {
+            data,
+            ..block_with(&["stone"], b"")
+        };
+        assert_refused(&rt, alloc, &block.file(alloc)?, fault, text)?;
     }
+    Ok(())
+}
+
+/// A script without commands leaves the world as it is.
+#[test]
+fn an_empty_script_is_done(rt: HostRuntime) -> Result<(), Fail> {
+    let alloc = rt.alloc();
     Outside::steady(&ONE_DIRT, "player anna\n")
         .run(&rt, alloc)?
         .assert_is(&rt, alloc, "Done", "done 0\n", &ONE_DIRT)
