@@ -7,5 +7,7 @@
 
 mod commands;
 mod history;
+mod session;
 
 pub use memory::Memory;
+pub use session::Session;
