@@ -91,7 +91,10 @@ pub(crate) fn is_redo(command: &Command) -> bool
 pub(crate) fn names_selection(mask: &Mask) -> bool
     ensures { result ≡ names_selection mask.now }
 {
-    mask.terms.as_slice().iter().any(|term| is_of_selection(&term.leaf))
+    mask.terms
+        .as_slice()
+        .iter()
+        .any(|term| is_of_selection(&term.leaf))
 }
 
 fn is_of_selection(leaf: &Leaf) -> bool
@@ -104,7 +107,11 @@ fn is_of_selection(leaf: &Leaf) -> bool
 fn names_clipboard(pattern: &Pattern) -> bool
     ensures { result ≡ names_clipboard pattern.now }
 {
-    pattern.entries.as_slice().iter().any(|entry| is_clipboard(&entry.value))
+    pattern
+        .entries
+        .as_slice()
+        .iter()
+        .any(|entry| is_clipboard(&entry.value))
 }
 
 fn is_clipboard(value: &Value) -> bool

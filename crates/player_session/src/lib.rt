@@ -7,6 +7,7 @@
 
 mod commands;
 mod history;
+mod masks;
 mod session;
 
 pub use memory::Memory;

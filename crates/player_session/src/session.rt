@@ -4,10 +4,13 @@ ghost use Rattle.std.specs.Prelude.{◌≡◌, ◌<◌, ◌≤◌, IfOk, OnOk, O
 ghost use Rattle.run_terms.specs.Session.{opening_session, selection_of, resolved_command, after_command, IsHistory};
 
 mod change;
+mod clipboard;
+mod edits;
 mod refusal;
 mod work;
 
 use crate::history::History;
+use crate::masks::mask_set;
 use edit_terms::{Clip, Command, Kind, Mask, Pos, Selection, Step};
 use memory::Memory;
 use std::alloc::Global;
@@ -35,17 +38,17 @@ impl Model for Session {
     ghost Value = { terms.Session };
 
     ghost view = { λ s. record {
-        player = s.player;
-        depth = s.depth;
-        number = s.number;
-        kind = s.kind;
-        first = s.first;
-        second = s.second;
-        place = s.place;
-        global = s.global;
-        clip = s.clip;
-        edits = s.history.edits.items;
-        cursor = s.history.cursor;
+      player = s.player;
+      depth = s.depth;
+      number = s.number;
+      kind = s.kind;
+      first = s.first;
+      second = s.second;
+      place = s.place;
+      global = s.global;
+      clip = s.clip;
+      edits = s.history.edits.items;
+      cursor = s.history.cursor;
     } };
 
     ghost invariant = { λ s. IsKept s.depth s.number s.history };
@@ -133,7 +136,8 @@ impl Session {
             return Ok(Step::Refused(refusal));
         }
         let step = self.step(alloc, command)?;
-        self.change(alloc, command)?;
+        let mask = mask_set(alloc, command)?;
+        self.change(command, mask);
         Ok(step)
     }
 }

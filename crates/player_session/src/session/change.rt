@@ -1,15 +1,47 @@
-//! What a command that isn't refused makes of the session.
+//! What a command that isn't refused makes of the session. All of it counts the command, and none of it
+//! takes memory.
 
-ghost use Rattle.std.specs.Prelude.{◌≡◌, ◌<◌, IfOk, OnOk, OnErr};
-ghost use Rattle.run_terms.specs.Session.{with_command, with_copy, counted, entered, clip_from, selection_of};
+ghost use Rattle.std.specs.Prelude.{◌≡◌, ◌<◌, Some, IfOk};
+ghost use Rattle.run_terms.specs.Session.{with_command, counted};
+ghost use Rattle.player_session.specs.Masks.{mask_set};
 
 use crate::session::Session;
-use clipboard_transform::{then_flip, then_turn};
-use edit_terms::{Clip, Command, Mask, Source, Transform};
+use edit_terms::{Command, Kind, Mask, Pos};
 use memory::Memory;
 use std::alloc::Global;
 
 impl Session {
+    /// The session behind a command that isn't refused; the mask is the one that the command sets.
+    pub(super) fn change(&mut self, command: &Command, mask: Option<Mask>)
+        requires number { self.old.number < 10000 }
+        requires mask { mask ≡ mask_set command.now }
+        ensures { self.new ≡ counted (with_command self.old command.now) }
+    {
+        match command {
+            Command::Pos1 { at } => self.set_first(*at),
+            Command::Pos2 { at } => self.set_second(*at),
+            Command::Place { at } => self.set_place(*at),
+            Command::Sel { kind } => self.set_kind(*kind),
+            Command::Gmask { .. } => self.set_global(mask),
+            Command::Copy => self.copy(),
+            Command::Cut => self.cut(),
+            Command::Rotate { quarters } => self.rotate(*quarters),
+            Command::Flip { to } => self.flip(*to),
+            Command::Undo { count } => self.undo(*count),
+            Command::Redo { count } => self.redo(*count),
+            Command::Block { .. } => self.count(),
+            Command::Set { .. }
+            | Command::Walls { .. }
+            | Command::Faces { .. }
+            | Command::Replace { .. }
+            | Command::Sphere { .. }
+            | Command::Cyl { .. }
+            | Command::Stack { .. }
+            | Command::Move { .. }
+            | Command::Paste { .. } => self.enter(),
+        }
+    }
+
     /// One more command was taken.
     pub(super) fn count(&mut self)
         requires { self.old.number < 10000 }
@@ -18,34 +50,43 @@ impl Session {
         self.number += 1;
     }
 
-    /// The session behind a command that isn't refused. Where memory is wanted it is as before.
-    pub(super) fn change(&mut self, alloc: Global, command: &Command) -> Result<(), Memory>
+    fn set_first(&mut self, at: Pos)
         requires { self.old.number < 10000 }
-        ensures after { OnOk result (self.new ≡ counted (with_command self.old command.now)) }
-        ensures unchanged { OnErr result (self.new ≡ self.old) }
+        ensures { self.new ≡ counted (record self.old { first = Some at }) }
     {
-        match command {
-            Command::Pos1 { at } => {
-                self.first = Some(*at);
-                self.count();
-                Ok(())
-            }
-            Command::Gmask { mask } => {
-                self.global = copied_mask(alloc, mask)?;
-                self.count();
-                Ok(())
-            }
-            _ => loop {},
-        }
+        self.first = Some(at);
+        self.number += 1;
     }
-}
 
-/// The same mask once more, if there is one; its lists are shared by further copies.
-pub(super) fn copied_mask(alloc: Global, mask: &Option<Mask>) -> Result<Option<Mask>, Memory>
-    ensures { IfOk result (λ copied. copied ≡ mask.now) }
-{
-    match mask {
-        Some(mask) => Ok(Some(mask.copy(alloc)?)),
-        None => Ok(None),
+    fn set_second(&mut self, at: Pos)
+        requires { self.old.number < 10000 }
+        ensures { self.new ≡ counted (record self.old { second = Some at }) }
+    {
+        self.second = Some(at);
+        self.number += 1;
+    }
+
+    fn set_place(&mut self, at: Pos)
+        requires { self.old.number < 10000 }
+        ensures { self.new ≡ counted (record self.old { place = Some at }) }
+    {
+        self.place = Some(at);
+        self.number += 1;
+    }
+
+    fn set_kind(&mut self, kind: Kind)
+        requires { self.old.number < 10000 }
+        ensures { self.new ≡ counted (record self.old { kind = kind }) }
+    {
+        self.kind = kind;
+        self.number += 1;
+    }
+
+    fn set_global(&mut self, mask: Option<Mask>)
+        requires { self.old.number < 10000 }
+        ensures { self.new ≡ counted (record self.old { global = mask }) }
+    {
+        self.global = mask;
+        self.number += 1;
     }
 }

@@ -6,11 +6,11 @@ ghost use Rattle.edit_terms.specs.declared.step.Step.TheVariants.{Settled};
 ghost use Rattle.edit_terms.specs.declared.region.Region.TheVariants as region;
 ghost use Rattle.edit_terms.specs.declared.step.Work.TheVariants as work;
 ghost use Rattle.run_terms.specs.Commands.{is_on_selection, is_at_place};
-ghost use Rattle.run_terms.specs.Session.{work_of, job_of, undone_edits, redone_edits};
+ghost use Rattle.run_terms.specs.Session.{work_of, job_of};
 
+use crate::masks::copied_mask;
 use crate::session::Session;
-use crate::session::change::copied_mask;
-use edit_terms::{BlockState, Command, Items, Mask, Pattern, Pos, Region, Selection, Spec, Step, Work};
+use edit_terms::{BlockState, Command, Mask, Pattern, Pos, Region, Selection, Spec, Step, Work};
 use memory::Memory;
 use std::alloc::Global;
 
@@ -136,23 +136,6 @@ impl Session {
             _ => unreachable!(),
         }
     }
-
-    /// The edits that an undo of so many takes, the latest first.
-    fn undone_steps(&self, alloc: Global, count: u32) -> Result<Items<u32>, Memory>
-        ensures { IfOk result (λ steps. steps ≡ undone_edits self.now count) }
-    {
-        let mut steps = Vec::from_slice(alloc, self.history.undone(count))?;
-        steps.reverse();
-        Ok(Items::from_vec(steps))
-    }
-
-    /// The edits that a redo of so many takes, the earliest first.
-    fn redone_steps(&self, alloc: Global, count: u32) -> Result<Items<u32>, Memory>
-        ensures { IfOk result (λ steps. steps ≡ redone_edits self.now count) }
-    {
-        let steps = Vec::from_slice(alloc, self.history.redone(count))?;
-        Ok(Items::from_vec(steps))
-    }
 }
 
 /// Puts a state at one position.
@@ -177,12 +160,7 @@ fn fill(alloc: Global, region: Region, pattern: &Pattern) -> Result<Work, Memory
 }
 
 /// Fills a selection where the mask holds.
-fn replace(
-    alloc: Global,
-    from: Selection,
-    mask: &Mask,
-    pattern: &Pattern,
-) -> Result<Work, Memory>
+fn replace(alloc: Global, from: Selection, mask: &Mask, pattern: &Pattern) -> Result<Work, Memory>
     ensures { IfOk result (λ made. made ≡ work.Fill (region.Selected from) (Some mask.now) pattern.now) }
 {
     Ok(Work::Fill {
