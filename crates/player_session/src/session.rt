@@ -1,6 +1,6 @@
 //! A player's session and its next command.
 
-ghost use Rattle.std.specs.Prelude.{◌≡◌, ◌<◌, ◌≤◌, IfOk, OnOk, OnErr};
+ghost use Rattle.std.specs.Prelude.{◌≡◌, ◌+◌, ◌<◌, ◌≤◌, IfOk, OnOk, OnErr};
 ghost use Rattle.run_terms.specs.Session.{opening_session, selection_of, resolved_command, after_command, IsHistory};
 
 mod change;
@@ -129,6 +129,7 @@ impl Session {
         requires { self.old.number < 10000 }
         ensures step { IfOk result (λ step. step ≡ resolved_command self.old command.now) }
         ensures after { OnOk result (self.new ≡ after_command self.old command.now) }
+        ensures number { OnOk result (self.new.number ≡ self.old.number + 1) }
         ensures unchanged { OnErr result (self.new ≡ self.old) }
     {
         if let Some(refusal) = self.refusal(command) {

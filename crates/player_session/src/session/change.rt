@@ -1,21 +1,20 @@
 //! What a command that isn't refused makes of the session. All of it counts the command, and none of it
 //! takes memory.
 
-ghost use Rattle.std.specs.Prelude.{◌≡◌, ◌<◌, Some, IfOk};
+ghost use Rattle.std.specs.Prelude.{◌≡◌, ◌+◌, ◌<◌};
 ghost use Rattle.run_terms.specs.Session.{with_command, counted};
 ghost use Rattle.player_session.specs.Masks.{mask_set};
 
 use crate::session::Session;
 use edit_terms::{Command, Kind, Mask, Pos};
-use memory::Memory;
-use std::alloc::Global;
 
 impl Session {
     /// The session behind a command that isn't refused; the mask is the one that the command sets.
     pub(super) fn change(&mut self, command: &Command, mask: Option<Mask>)
         requires number { self.old.number < 10000 }
         requires mask { mask ≡ mask_set command.now }
-        ensures { self.new ≡ counted (with_command self.old command.now) }
+        ensures after { self.new ≡ counted (with_command self.old command.now) }
+        ensures number { self.new.number ≡ self.old.number + 1 }
     {
         match command {
             Command::Pos1 { at } => self.set_first(*at),
