@@ -1,26 +1,44 @@
-//! Commands and answers for the tests.
+//! What the tests do in a session, and what they are told.
+
+ghost use Rattle.std.specs.Prelude.{◌≤◌};
 
 use crate::Session;
 use edit_terms::{
-    BlockName, BlockState, Command, Entry, Items, Leaf, Mask, Name, Pattern, Pos, Properties,
-    Refusal, Spec, Step, Term, Value, Work,
+    BlockName, BlockState, Clip, Command, Direction, Entry, Items, Kind, Leaf, Mask, Name, Pattern,
+    Pos, Properties, Spec, Step, Term, Value, Work,
 };
 use std::alloc::Global;
 use std::test::Fail;
 
-/// The next command of a session that takes more.
-pub(crate) fn next(alloc: Global, session: &mut Session, command: &Command) -> Result<Step, Fail> {
-    if session.number() == 10_000 {
-        return Err("at most 10,000 commands".into());
-    }
-    Ok(session.next(alloc, command)?)
+/// A command of the tests. Positions lie along x.
+#[derive(Clone, Copy)]
+pub(crate) enum Act {
+    First(i32),
+    Second(i32),
+    Place(i32),
+    Sphere,
+    Block,
+    SetStone,
+    SetClipboard,
+    BallOfStone,
+    BallOfClipboard,
+    Copy,
+    Cut,
+    Paste,
+    Rotate(u8),
+    FlipEast,
+    MaskSelection,
+    MaskExisting,
+    NoMask,
+    Undo(u32),
+    Redo(u32),
 }
 
-pub(crate) fn at(x: i32) -> Pos {
+fn at(x: i32) -> Pos {
     Pos { x, y: 64, z: 0 }
 }
 
-pub(crate) fn stone(alloc: Global) -> Result<BlockState, Fail> {
+fn stone(alloc: Global) -> Result<BlockState, Fail> {
     let name = Name::from_vec(Vec::from_slice(alloc, b"minecraft:stone")?);
     let name = BlockName::from_name(name).ok_or("a block name")?;
     let properties = Properties::from_pairs(Vec::new(alloc)).ok_or("properties")?;
@@ -34,34 +52,19 @@ fn only(alloc: Global, value: Value) -> Result<Pattern, Fail> {
     })
 }
 
-/// `stone`
-pub(crate) fn of_stone(alloc: Global) -> Result<Pattern, Fail> {
+fn of_stone(alloc: Global) -> Result<Pattern, Fail> {
     only(alloc, Value::Fixed(stone(alloc)?))
 }
 
-/// `#clipboard`
-pub(crate) fn of_clipboard(alloc: Global) -> Result<Pattern, Fail> {
-    only(alloc, Value::Clipboard)
-}
-
-/// A mask of this one leaf.
-pub(crate) fn mask(alloc: Global, leaf: Leaf) -> Result<Mask, Fail> {
+fn masked(alloc: Global, leaf: Leaf) -> Result<Command, Fail> {
     let signs = Items::from_vec(Vec::new(alloc));
-    let terms = vec![in alloc; Term { signs, leaf }]?;
-    Ok(Mask {
-        terms: Items::from_vec(terms),
+    let terms = Items::from_vec(vec![in alloc; Term { signs, leaf }]?);
+    Ok(Command::Gmask {
+        mask: Some(Mask { terms }),
     })
 }
 
-/// `//set stone`
-pub(crate) fn set_stone(alloc: Global) -> Result<Command, Fail> {
-    Ok(Command::Set {
-        pattern: of_stone(alloc)?,
-    })
-}
-
-/// `//sphere PATTERN 3`
-pub(crate) fn sphere(pattern: Pattern) -> Command {
+fn ball(pattern: Pattern) -> Command {
     Command::Sphere {
         pattern,
         radius: 3,
@@ -69,27 +72,109 @@ pub(crate) fn sphere(pattern: Pattern) -> Command {
     }
 }
 
-/// Why a step is refused, if it is.
-pub(crate) fn refusal_of(step: &Step) -> Option<Refusal> {
-    match step {
-        Step::Refused(refusal) => Some(*refusal),
-        _ => None,
+fn set(pattern: Pattern) -> Command {
+    Command::Set { pattern }
+}
+
+fn block(alloc: Global) -> Result<Command, Fail> {
+    Ok(Command::Block {
+        at: at(1),
+        state: stone(alloc)?,
+    })
+}
+
+fn command_of(alloc: Global, act: Act) -> Result<Command, Fail> {
+    match act {
+        Act::First(x) => Ok(Command::Pos1 { at: at(x) }),
+        Act::Second(x) => Ok(Command::Pos2 { at: at(x) }),
+        Act::Place(x) => Ok(Command::Place { at: at(x) }),
+        Act::Sphere => Ok(Command::Sel { kind: Kind::Sphere }),
+        Act::Block => block(alloc),
+        Act::SetStone => Ok(set(of_stone(alloc)?)),
+        Act::SetClipboard => Ok(set(only(alloc, Value::Clipboard)?)),
+        Act::BallOfStone => Ok(ball(of_stone(alloc)?)),
+        Act::BallOfClipboard => Ok(ball(only(alloc, Value::Clipboard)?)),
+        Act::Copy => Ok(Command::Copy),
+        Act::Cut => Ok(Command::Cut),
+        Act::Paste => Ok(Command::Paste { skip_air: true }),
+        Act::Rotate(quarters) => Ok(Command::Rotate { quarters }),
+        Act::FlipEast => Ok(Command::Flip {
+            to: Direction::East,
+        }),
+        Act::MaskSelection => masked(alloc, Leaf::InSelection),
+        Act::MaskExisting => masked(alloc, Leaf::Existing),
+        Act::NoMask => Ok(Command::Gmask { mask: None }),
+        Act::Undo(count) => Ok(Command::Undo { count }),
+        Act::Redo(count) => Ok(Command::Redo { count }),
     }
 }
 
-/// The job of a step, if it has one.
-pub(crate) fn job_of(step: &Step) -> Option<&Spec> {
-    match step {
-        Step::Job(job) => Some(job),
-        _ => None,
+fn next(alloc: Global, session: &mut Session, act: Act) -> Result<Step, Fail> {
+    if session.number() == 10_000 {
+        return Err("at most 10,000 commands".into());
+    }
+    let command = command_of(alloc, act)?;
+    Ok(session.next(alloc, &command)?)
+}
+
+fn numbers_told(alloc: Global, word: &str, numbers: &[u32]) -> Result<String, Fail> {
+    let mut text = format!(in alloc; "{word}")?;
+    for number in numbers {
+        text.push_str(format!(in alloc; " {number}")?.as_str())?;
+    }
+    Ok(text)
+}
+
+fn job_told(alloc: Global, job: &Spec) -> Result<String, Fail> {
+    match &job.work {
+        Work::Undo { steps } => numbers_told(alloc, "undo", steps.as_slice()),
+        Work::Redo { steps } => numbers_told(alloc, "redo", steps.as_slice()),
+        _ => match &job.global {
+            Some(_) => Ok(format!(in alloc; "masked")?),
+            None => Ok(format!(in alloc; "job")?),
+        },
     }
 }
 
-/// The numbers of the commands that a step takes back or does again. None of any other step.
-pub(crate) fn steps_of(step: &Step) -> Option<&[u32]> {
-    match &job_of(step)?.work {
-        Work::Undo { steps } => Some(steps.as_slice()),
-        Work::Redo { steps } => Some(steps.as_slice()),
-        _ => None,
+fn step_told(alloc: Global, step: &Step) -> Result<String, Fail> {
+    match step {
+        Step::Settled => Ok(format!(in alloc; "settled")?),
+        Step::Refused(refusal) => Ok(format!(in alloc; "{refusal:?}")?),
+        Step::Job(job) => job_told(alloc, job),
     }
+}
+
+/// What the next command is.
+pub(crate) fn told(alloc: Global, session: &mut Session, act: Act) -> Result<String, Fail> {
+    let step = next(alloc, session, act)?;
+    step_told(alloc, &step)
+}
+
+/// The commands of a player one after the other, each as it is told.
+pub(crate) fn all_told(alloc: Global, depth: u32, acts: &[Act]) -> Result<String, Fail>
+    requires low { 1 ≤ depth }
+    requires high { depth ≤ 1000 }
+{
+    let mut session = Session::start(alloc, 0, depth)?;
+    let mut text = String::new(alloc);
+    for act in acts {
+        text.push_str(told(alloc, &mut session, *act)?.as_str())?;
+        text.push_str("; ")?;
+    }
+    Ok(text)
+}
+
+/// A clipboard: its command, the ends of its selection, its origin and its transform.
+pub(crate) fn clip_told(alloc: Global, clip: Option<Clip>) -> Result<String, Fail> {
+    let Some(clip) = clip else {
+        return Ok(format!(in alloc; "none")?);
+    };
+    let (player, step) = (clip.source.player, clip.source.step);
+    let (first, second, origin) = (clip.from.first.x, clip.from.second.x, clip.origin.x);
+    let (flip_x, flip_y, turns) = (
+        clip.transform.flip_x,
+        clip.transform.flip_y,
+        clip.transform.turns,
+    );
+    Ok(format!(in alloc; "{player}:{step} {first} {second} {origin} {flip_x} {flip_y} {turns}")?)
 }

@@ -1,200 +1,129 @@
 //! Sessions as the rules have them. What is wanted was worked out by hand.
 
 use crate::Session;
-use crate::fixtures::{
-    at, job_of, mask, next, of_clipboard, of_stone, refusal_of, set_stone, sphere, steps_of, stone,
-};
-use edit_terms::{Clip, Command, Direction, Kind, Leaf, Refusal, Selection, Source, Transform};
+use crate::fixtures::{Act, all_told, clip_told, told};
 use std::alloc::Global;
 use std::test::Fail;
 
-/// A player's two positions: the selection is from 0 to 9 along x.
-fn select(alloc: Global, session: &mut Session) -> Result<(), Fail> {
-    next(alloc, session, &Command::Pos1 { at: at(0) })?;
-    next(alloc, session, &Command::Pos2 { at: at(9) })?;
-    Ok(())
-}
-
 #[test]
-fn selections_come_before_places_and_clipboards(rt: HostRuntime) -> Result<(), Fail> {
-    let alloc = rt.alloc();
-    let mut session = Session::start(alloc, 0, 15)?;
-    let set = Command::Set {
-        pattern: of_clipboard(alloc)?,
-    };
-    let ball = sphere(of_clipboard(alloc)?);
-    let paste = Command::Paste { skip_air: true };
-    let rotate = Command::Rotate { quarters: 1 };
-    for (command, want) in [
-        (&set, Refusal::NoSelection),
-        (&Command::Copy, Refusal::NoSelection),
-        (&ball, Refusal::NoPlace),
-        (&paste, Refusal::NoPlace),
-        (&rotate, Refusal::NoClipboard),
-        (&Command::Undo { count: 1 }, Refusal::NothingToUndo),
-        (&Command::Redo { count: 1 }, Refusal::NothingToRedo),
-    ] {
-        let step = next(alloc, &mut session, command)?;
-        assert_eq!(rt; refusal_of(&step), Some(want), "{command:?}");
-    }
-    select(alloc, &mut session)?;
-    for (command, want) in [
-        (&set, Some(Refusal::NoClipboard)),
-        (&Command::Copy, Some(Refusal::NoPlace)),
-        (&Command::Place { at: at(5) }, None),
-        (&ball, Some(Refusal::NoClipboard)),
-        (&paste, Some(Refusal::NoClipboard)),
-        (&Command::Copy, None),
-        (&ball, None),
-        (&paste, None),
-        (&rotate, None),
-    ] {
-        let step = next(alloc, &mut session, command)?;
-        assert_eq!(rt; refusal_of(&step), want, "{command:?}");
-    }
-    assert_eq!(rt; session.number(), 18);
+fn refusals_in_their_order(rt: HostRuntime) -> Result<(), Fail> {
+    let acts = [
+        Act::SetClipboard,
+        Act::Copy,
+        Act::BallOfClipboard,
+        Act::Paste,
+        Act::Rotate(1),
+        Act::Undo(1),
+        Act::Redo(1),
+        Act::First(0),
+        Act::Second(9),
+        Act::SetClipboard,
+        Act::Copy,
+        Act::Place(5),
+        Act::BallOfClipboard,
+        Act::Copy,
+        Act::BallOfClipboard,
+        Act::Rotate(1),
+    ];
+    let want =
+        "NoSelection; NoSelection; NoPlace; NoPlace; NoClipboard; NothingToUndo; NothingToRedo; \
+        settled; settled; NoClipboard; NoPlace; settled; NoClipboard; job; job; settled; ";
+    assert_eq!(rt; all_told(rt.alloc(), 15, &acts)?.as_str(), want);
     Ok(())
 }
 
 #[test]
 fn a_global_mask_may_name_the_selection(rt: HostRuntime) -> Result<(), Fail> {
-    let alloc = rt.alloc();
-    let mut session = Session::start(alloc, 0, 15)?;
-    let in_selection = Command::Gmask {
-        mask: Some(mask(alloc, Leaf::InSelection)?),
-    };
-    let existing = Command::Gmask {
-        mask: Some(mask(alloc, Leaf::Existing)?),
-    };
-    let ball = sphere(of_stone(alloc)?);
-    let block = Command::Block {
-        at: at(1),
-        state: stone(alloc)?,
-    };
-    for (command, want) in [
-        (&in_selection, None),
-        (&ball, Some(Refusal::NoSelection)),
-        (&block, None),
-        (&existing, None),
-        (&ball, Some(Refusal::NoPlace)),
-        (&Command::Place { at: at(5) }, None),
-        (&ball, None),
-    ] {
-        let step = next(alloc, &mut session, command)?;
-        assert_eq!(rt; refusal_of(&step), want, "{command:?}");
-    }
-    let step = next(alloc, &mut session, &ball)?;
-    let job = job_of(&step).ok_or("a job")?;
-    let global = job.global.as_ref().ok_or("a mask")?;
-    assert!(rt; matches!(global.terms.as_slice()[0].leaf, Leaf::Existing));
-    assert!(rt; job.selection.is_none() && job.clip.is_none());
-    next(alloc, &mut session, &Command::Gmask { mask: None })?;
-    let step = next(alloc, &mut session, &ball)?;
-    assert!(rt; job_of(&step).ok_or("a job")?.global.is_none());
+    let acts = [
+        Act::MaskSelection,
+        Act::BallOfStone,
+        Act::Block,
+        Act::MaskExisting,
+        Act::BallOfStone,
+        Act::Place(5),
+        Act::BallOfStone,
+        Act::NoMask,
+        Act::BallOfStone,
+    ];
+    let want = "settled; NoSelection; masked; settled; NoPlace; settled; masked; settled; job; ";
+    assert_eq!(rt; all_told(rt.alloc(), 15, &acts)?.as_str(), want);
     Ok(())
 }
 
+/// The edits 2 to 5 and then these.
 #[test]
-fn a_deep_history(rt: HostRuntime) -> Result<(), Fail> {
-    let alloc = rt.alloc();
-    let mut session = Session::start(alloc, 0, 3)?;
-    select(alloc, &mut session)?;
-    let set = set_stone(alloc)?;
-    for _ in 2..6 {
-        next(alloc, &mut session, &set)?;
-    }
-    let undo = Command::Undo { count: 2 };
-    let redo = Command::Redo { count: 5 };
-    for (command, want) in [
-        (&undo, Some([5, 4].as_slice())),
-        (&redo, Some([4, 5].as_slice())),
-        (&undo, Some([5, 4].as_slice())),
-        (&set, None),
-        (&redo, None),
-        (&Command::Undo { count: 5 }, Some([9, 3].as_slice())),
-        (&undo, None),
-        (&Command::Redo { count: 1 }, Some([3].as_slice())),
-        (&redo, Some([9].as_slice())),
-    ] {
-        let step = next(alloc, &mut session, command)?;
-        assert_eq!(rt; steps_of(&step), want, "{command:?}");
-    }
+fn a_history_of_three_edits(rt: HostRuntime) -> Result<(), Fail> {
+    let acts = [
+        Act::First(0),
+        Act::Second(9),
+        Act::SetStone,
+        Act::SetStone,
+        Act::SetStone,
+        Act::SetStone,
+        Act::Undo(2),
+        Act::Redo(5),
+        Act::Undo(2),
+        Act::SetStone,
+        Act::Redo(5),
+        Act::Undo(5),
+        Act::Undo(2),
+        Act::Redo(1),
+        Act::Redo(5),
+    ];
+    let want = "settled; settled; job; job; job; job; undo 5 4; redo 4 5; undo 5 4; job; \
+        NothingToRedo; undo 9 3; NothingToUndo; redo 3; redo 9; ";
+    assert_eq!(rt; all_told(rt.alloc(), 3, &acts)?.as_str(), want);
     Ok(())
 }
 
 #[test]
 fn a_history_of_one_edit(rt: HostRuntime) -> Result<(), Fail> {
-    let alloc = rt.alloc();
-    let mut session = Session::start(alloc, 0, 1)?;
-    select(alloc, &mut session)?;
-    let set = set_stone(alloc)?;
-    next(alloc, &mut session, &set)?;
-    next(alloc, &mut session, &set)?;
-    let undo = Command::Undo { count: 2 };
-    let redo = Command::Redo { count: 9 };
-    for (command, want) in [
-        (&undo, Some([3].as_slice())),
-        (&undo, None),
-        (&redo, Some([3].as_slice())),
-        (&redo, None),
-    ] {
-        let step = next(alloc, &mut session, command)?;
-        assert_eq!(rt; steps_of(&step), want, "{command:?}");
-    }
+    let acts = [
+        Act::First(0),
+        Act::Second(9),
+        Act::SetStone,
+        Act::SetStone,
+        Act::Undo(2),
+        Act::Undo(2),
+        Act::Redo(9),
+        Act::Redo(9),
+    ];
+    let want = "settled; settled; job; job; undo 3; NothingToUndo; redo 3; NothingToRedo; ";
+    assert_eq!(rt; all_told(rt.alloc(), 1, &acts)?.as_str(), want);
     Ok(())
 }
 
-/// The clipboard of player 7 after a copy by this command.
-fn copied(step: u32, flip_x: bool, turns: u8) -> Option<Clip> {
-    Some(Clip {
-        source: Source { player: 7, step },
-        from: Selection {
-            kind: Kind::Sphere,
-            first: at(0),
-            second: at(9),
-        },
-        origin: at(5),
-        transform: Transform {
-            flip_x,
-            flip_y: false,
-            turns,
-        },
-    })
+/// The clipboard of player 7 behind each command.
+fn clips_told(alloc: Global, acts: &[Act]) -> Result<String, Fail> {
+    let mut session = Session::start(alloc, 7, 15)?;
+    session.well_formed();
+    let mut text = String::new(alloc);
+    for act in acts {
+        told(alloc, &mut session, *act)?;
+        text.push_str(clip_told(alloc, session.clip())?.as_str())?;
+        text.push_str("; ")?;
+    }
+    Ok(text)
 }
 
 #[test]
 fn clipboards_are_copied_and_turned(rt: HostRuntime) -> Result<(), Fail> {
-    let alloc = rt.alloc();
-    let mut session = Session::start(alloc, 7, 15)?;
-    session.well_formed();
-    assert_eq!(rt; session.player(), 7);
-    select(alloc, &mut session)?;
-    next(alloc, &mut session, &Command::Sel { kind: Kind::Sphere })?;
-    next(alloc, &mut session, &Command::Place { at: at(5) })?;
-    assert!(rt; session.clip().is_none());
-    for (command, want) in [
-        (&Command::Copy, copied(4, false, 0)),
-        (&Command::Rotate { quarters: 1 }, copied(4, false, 1)),
-        (
-            &Command::Flip {
-                to: Direction::East,
-            },
-            copied(4, true, 3),
-        ),
-        (&Command::Rotate { quarters: 3 }, copied(4, true, 2)),
-        (&Command::Paste { skip_air: false }, copied(4, true, 2)),
-        (&Command::Cut, copied(9, false, 0)),
-    ] {
-        let before = session.clip();
-        let step = next(alloc, &mut session, command)?;
-        assert_eq!(rt; session.clip(), want, "{command:?}");
-        if let Some(job) = job_of(&step) {
-            assert_eq!(rt; job.clip, before, "{command:?}");
-            assert_eq!(rt; job.selection, session.selection(), "{command:?}");
-        }
-    }
-    let step = next(alloc, &mut session, &Command::Undo { count: 3 })?;
-    assert_eq!(rt; steps_of(&step), Some([9, 8].as_slice()));
+    let acts = [
+        Act::First(0),
+        Act::Second(9),
+        Act::Sphere,
+        Act::Place(5),
+        Act::Copy,
+        Act::Rotate(1),
+        Act::FlipEast,
+        Act::Rotate(3),
+        Act::Paste,
+        Act::Cut,
+    ];
+    let want = "none; none; none; none; 7:4 0 9 5 false false 0; 7:4 0 9 5 false false 1; \
+        7:4 0 9 5 true false 3; 7:4 0 9 5 true false 2; 7:4 0 9 5 true false 2; \
+        7:9 0 9 5 false false 0; ";
+    assert_eq!(rt; clips_told(rt.alloc(), &acts)?.as_str(), want);
     Ok(())
 }
 
@@ -202,7 +131,11 @@ fn clipboards_are_copied_and_turned(rt: HostRuntime) -> Result<(), Fail> {
 fn is_for_threads<T: Send + Sync>(_value: &T) {}
 
 #[test]
-fn sessions_may_go_to_other_threads(rt: HostRuntime) -> Result<(), Fail> {
-    is_for_threads(&Session::start(rt.alloc(), 0, 1)?);
+fn a_new_session(rt: HostRuntime) -> Result<(), Fail> {
+    let session = Session::start(rt.alloc(), 3, 1)?;
+    is_for_threads(&session);
+    assert_eq!(rt; session.player(), 3);
+    assert_eq!(rt; session.number(), 0);
+    assert!(rt; session.selection().is_none() && session.clip().is_none());
     Ok(())
 }
