@@ -1,6 +1,6 @@
 //! The edits of a session that can be taken back or done again.
 
-ghost use Rattle.std.specs.Prelude.{◌≡◌, ◌∷◌, ◌++◌, ◌<◌, ◌≤◌, [], length, take, drop, reverse, IfOk, nat_le, vec_capacity};
+ghost use Rattle.std.specs.Prelude.{◌≡◌, ◌∷◌, ◌++◌, ◌≤◌, [], length, take, drop, reverse, IfOk, nat_le, vec_capacity};
 ghost use Rattle.run_terms.specs.Session.{last_of};
 
 use memory::Memory;
@@ -27,7 +27,7 @@ impl History {
         })
     }
 
-    /// Whether an edit stands behind the cursor.
+    /// Whether no edit stands behind the cursor.
     pub(crate) fn is_at_end(&self) -> bool
         ensures { result ≡ nat_le (length self.now.edits.items) self.now.cursor }
     {
