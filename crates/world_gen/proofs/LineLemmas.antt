@@ -12,7 +12,7 @@ lines_from-append first (command ∷ before) behind =
     ap (λ (lines : List Line). record { number = first; command = command } ∷ lines)
     (lines_from-append (first + 1) before behind ∙ ap (λ (n : ℕ). lines_from (first + 1) before ++ lines_from n behind) (omega arith))
 
-length-lines_from : (first : ℕ) (commands : List Command) → length (lines_from first commands) ≡ length commands
+pub length-lines_from : (first : ℕ) (commands : List Command) → length (lines_from first commands) ≡ length commands
 length-lines_from first [] = refl
 length-lines_from first (command ∷ commands) = ap suc (length-lines_from (first + 1) commands)
 
