@@ -1,0 +1,17 @@
+//! The drill: the workload that the program tests itself on, made from a number.
+//!
+//! Eight players edit one hilly meadow, each in its own columns of x, by selections, fills, stacks and undos
+//! that the number's random words choose. The definition stands in `specs/`; what is made is exactly that.
+#![tactic(auto)]
+
+mod commands;
+mod ground;
+mod scripts;
+mod states;
+mod workload;
+
+pub use memory::Memory;
+pub use workload::drill_case;
+
+#[cfg(test)]
+mod tests;
