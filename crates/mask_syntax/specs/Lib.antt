@@ -1,0 +1,7 @@
+pub mod Pieces
+pub mod Cursor
+pub mod Read
+pub mod Chance
+pub mod Leaf
+pub mod Term
+pub mod Mask

@@ -1,0 +1,16 @@
+//! Masks from their texts.
+//!
+//! It serves the reader of scripts. A text is read as exactly the mask that the definitions in `specs/`
+//! give, which cut it into pieces and judge each piece alone, or refused with the first fault from the
+//! left and its place.
+#![tactic(auto)]
+
+mod chance;
+mod leaf;
+mod pieces;
+mod properties;
+mod signs;
+mod state;
+mod term;
+mod union;
+
