@@ -1,5 +1,5 @@
 -- The pieces of a text by the first separator outside brackets.
-use Rattle.std.proofs.Common.{◌≡◌, ℕ, ◌+◌, ◌<◌, ◌≤◌, true, false, cond, List, [], ◌∷◌, length, take, drop, get_or, Option, Some, None, option_map, refl, ap, sym, ◌∙◌, add-one, drop-cons, arith}
+use Rattle.std.proofs.Common.{◌≡◌, ℕ, ◌+◌, ◌<◌, ◌≤◌, true, false, cond, List, [], ◌∷◌, length, take, drop, get_or, Option, Some, None, option_map, refl, ap, ◌∙◌, add-one, drop-cons, arith}
 use Rattle.std.specs.Prelude.{Bool}
 use Rattle.std.specs.List.{onto_first}
 use Rattle.std.proofs.Math.ListN.{drop_of_length-le}

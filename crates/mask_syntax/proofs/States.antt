@@ -1,5 +1,5 @@
 -- States and properties in a mask, and what their faults say of it.
-use Rattle.std.proofs.Common.{◌≡◌, ℕ, List, ◌++◌, Ok, Err, refl, ap, ◌∙◌}
+use Rattle.std.proofs.Common.{◌≡◌, ℕ, List, ◌++◌, Ok, Err, refl, ap}
 use Rattle.std.specs.Prelude.{Result, codes}
 use Rattle.edit_terms.specs.StateText.{State, TextFault, opening, cut_at, listed_in, state_listed, state_reading}
 use Rattle.block_state.specs.declared.fault.StateFault.{StateFault}

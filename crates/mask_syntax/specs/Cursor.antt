@@ -1,5 +1,5 @@
 -- What contracts see of the reader's place among the pieces of a text.
-use Rattle.std.specs.Prelude.{ℕ, ◌+◌, Bool, false, if◌then◌else◌, List, [], ◌∷◌, length, Option, Some, None, option_map}
+use Rattle.std.specs.Prelude.{ℕ, ◌+◌, Bool, if◌then◌else◌, List, [], ◌∷◌, length, Option, Some, None, option_map}
 use Rattle.std.specs.Borrow.{Bor}
 use Rattle.mask_syntax.specs.declared.pieces.Piece as code
 use Rattle.mask_syntax.specs.Pieces.{Piece, is_inside_after, ends_piece, pieces_at}

@@ -1,5 +1,5 @@
 -- Which leaf of a mask a text stands for, or its first fault.
-use Rattle.std.specs.Prelude.{ℕ, Bool, ◌||◌, ◌==◌, if◌then◌else◌, List, [], ◌∷◌, map, Option, Some, None, Result, Ok, Err, codes, bytes_eq}
+use Rattle.std.specs.Prelude.{ℕ, Bool, ◌||◌, ◌==◌, if◌then◌else◌, List, [], ◌∷◌, map, Some, None, Result, Ok, Err, codes, bytes_eq}
 use Rattle.edit_terms.specs.declared.mask.Leaf.{Leaf}
 use Rattle.edit_terms.specs.declared.mask.Leaf.TheVariants.{Noise, Existing, InSelection, Has, OneOf}
 use Rattle.edit_terms.specs.StateText.{TextFault, comma, opening, cut_at, listed_in, sorted_properties, state_reading}

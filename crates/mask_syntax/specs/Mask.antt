@@ -1,11 +1,11 @@
 -- Which mask a text stands for, or its first fault (masks of WorldEdit 7, with limits of this project).
-use Rattle.std.specs.Prelude.{ℕ, ◌+◌, ◌*◌, nat_lt, Bool, not, ◌==◌, if◌then◌else◌, List, [], ◌∷◌, length, map, filter, Result, Ok, Err}
+use Rattle.std.specs.Prelude.{ℕ, ◌+◌, nat_lt, Bool, not, ◌==◌, if◌then◌else◌, List, [], ◌∷◌, length, map, filter, Result, Ok, Err}
 use Rattle.edit_terms.specs.declared.mask.Term.{Term}
 use Rattle.edit_terms.specs.declared.mask.Mask.{Mask}
 use Rattle.block_state.specs.declared.term_fault.TermFault.{TermFault}
 use Rattle.block_state.specs.declared.term_fault.TermFault.TheVariants.{Empty, TooManyNoise}
 use Rattle.mask_syntax.specs.Pieces.{Piece, pieces_at}
-use Rattle.mask_syntax.specs.Read.{verdict_map, all_or_first}
+use Rattle.mask_syntax.specs.Read.{all_or_first}
 use Rattle.mask_syntax.specs.Term.{leaf_piece, term_reading, noise_of}
 
 -- the byte between two terms: a space
@@ -44,11 +44,12 @@ judged c = elim (term_reading c.piece) [
 abbrev pub terms_reading : List Piece → Result (List Term) TermFault
 terms_reading pieces = all_or_first (map judged (counted 0 pieces))
 
--- the mask of these terms' texts; there must be one
-abbrev pub mask_of_pieces : List Piece → Result Mask TermFault
-mask_of_pieces [] = Err (Empty 0)
-mask_of_pieces (p ∷ more) = verdict_map (λ terms. record { terms = terms }) (terms_reading (p ∷ more))
+-- the mask of these terms; there must be one
+abbrev pub mask_of_terms : Result (List Term) TermFault → Result Mask TermFault
+mask_of_terms (Ok []) = Err (Empty 0)
+mask_of_terms (Ok (term ∷ more)) = Ok (record { terms = term ∷ more })
+mask_of_terms (Err fault) = Err fault
 
--- The mask that a text stands for: terms with spaces between.
+-- The mask that a text stands for, terms with spaces between, or its first fault.
 abbrev pub mask_of_text : List ℕ → Result Mask TermFault
-mask_of_text text = mask_of_pieces (term_pieces text)
+mask_of_text text = mask_of_terms (terms_reading (term_pieces text))

@@ -1,5 +1,5 @@
 -- The pieces of a text between the separators that stand outside brackets, and where each begins.
-use Rattle.std.specs.Prelude.{ℕ, ◌+◌, Bool, true, false, ◌&&◌, ◌==◌, not, if◌then◌else◌, List, [], ◌∷◌, length, Option, Some, None}
+use Rattle.std.specs.Prelude.{ℕ, ◌+◌, Bool, false, ◌&&◌, ◌==◌, not, if◌then◌else◌, List, [], ◌∷◌, length}
 use Rattle.std.specs.List.{onto_first}
 use Rattle.edit_terms.specs.StateText.{opening, closing}
 

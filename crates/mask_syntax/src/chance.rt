@@ -14,7 +14,11 @@ pub(crate) fn chance_of(bytes: &[u8]) -> Option<u8>
         return None;
     }
     let value = value_of(bytes);
-    if value <= 100 { Some(value as u8) } else { None }
+    if value <= 100 {
+        Some(value as u8)
+    } else {
+        None
+    }
 }
 
 fn value_of(digits: &[u8]) -> u32

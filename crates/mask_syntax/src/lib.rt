@@ -7,6 +7,7 @@
 
 mod chance;
 mod leaf;
+mod mask;
 mod pieces;
 mod properties;
 mod signs;
@@ -14,3 +15,9 @@ mod state;
 mod term;
 mod union;
 
+pub use block_state::TermFault;
+pub use mask::read_mask;
+pub use memory::Memory;
+
+#[cfg(test)]
+mod tests;

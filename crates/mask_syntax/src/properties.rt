@@ -12,11 +12,7 @@ use std::alloc::Global;
 
 /// The properties of what stands behind the opening bracket of a text that begins at this place.
 #[tactic(auto, using(crate::proofs::States::told_at))]
-pub(crate) fn properties_at(
-    alloc: Global,
-    at: u32,
-    rest: &[u8],
-) -> Result<Properties, TermFault>
+pub(crate) fn properties_at(alloc: Global, at: u32, rest: &[u8]) -> Result<Properties, TermFault>
     ensures { Gives (λ properties. properties) (at_place at (properties_reading rest.now)) result }
 {
     match read_properties(alloc, rest) {

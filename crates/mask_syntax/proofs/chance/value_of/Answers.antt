@@ -15,4 +15,3 @@ pub loop-digit-preserved : goal.loop-digit-preserved
 loop-digit-preserved c =
     let more = value_more c.args.digits.now c.loop-digit.digit-index c.requires c.loop-digit-test.true in
     omega (arith, more)
-
