@@ -1,0 +1,6 @@
+pub mod Pieces
+pub mod Cursor
+pub mod Read
+pub mod Weight
+pub mod Value
+pub mod Pattern
