@@ -1,5 +1,3 @@
-pub mod Cuts
 pub mod Digits
 pub mod States
-pub mod Joined
 pub mod Within

@@ -9,19 +9,9 @@ use Rattle.block_state.specs.declared.term_fault.TermFault.{TermFault}
 use Rattle.block_state.specs.declared.term_fault.TermFault.TheVariants.{Empty, Unknown, State, Number, Memory}
 use Rattle.block_state.specs.declared.fault.StateFault.{StateFault}
 use Rattle.block_state.specs.declared.fault.StateFault.TheVariants as faults
-use Rattle.mask_syntax.specs.Pieces.{Piece, pieces_at}
-use Rattle.mask_syntax.specs.Read.{verdict_map, all_or_first}
+use Rattle.term_text.specs.Pieces.{Piece, pieces_at}
+use Rattle.term_text.specs.Verdict.{verdict_map, all_or_first}
 use Rattle.mask_syntax.specs.Chance.{chance_of}
-
--- a verdict on the text of a state or of properties that begins at this place
-abbrev pub at_place : {A : Type 0} → ℕ → Result A TextFault → Result A TermFault
-at_place at (Ok x) = Ok x
-at_place at (Err fault) = Err (State at (fault_of fault))
-
--- the error that says so; want of memory has no place
-abbrev pub error_at : ℕ → StateFault → TermFault
-error_at at faults.Memory = Memory
-error_at at fault = State at fault
 
 -- a share of noise: the number behind the percent sign
 abbrev pub noise_reading : ℕ → List ℕ → Result Leaf TermFault
@@ -38,15 +28,6 @@ abbrev pub word_reading : ℕ → List ℕ → Result Leaf TermFault
 word_reading at word =
     if bytes_eq word (codes "existing") then Ok Existing
     else (if is_selection_word word then Ok InSelection else Err (Unknown at))
-
--- listed properties by rising key
-abbrev pub properties_listed : Result (List (List ℕ × List ℕ)) TextFault → Result (List (List ℕ × List ℕ)) TextFault
-properties_listed (Ok listed) = Ok (sorted_properties listed)
-properties_listed (Err fault) = Err fault
-
--- the properties of what stands behind the opening bracket
-abbrev pub properties_reading : List ℕ → Result (List (List ℕ × List ℕ)) TextFault
-properties_reading rest = properties_listed (listed_in (cut_at opening rest))
 
 -- properties in brackets behind the caret
 abbrev pub has_reading : ℕ → List ℕ → Result Leaf TermFault

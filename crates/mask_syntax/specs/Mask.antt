@@ -4,8 +4,8 @@ use Rattle.edit_terms.specs.declared.mask.Term.{Term}
 use Rattle.edit_terms.specs.declared.mask.Mask.{Mask}
 use Rattle.block_state.specs.declared.term_fault.TermFault.{TermFault}
 use Rattle.block_state.specs.declared.term_fault.TermFault.TheVariants.{Empty, TooManyNoise}
-use Rattle.mask_syntax.specs.Pieces.{Piece, pieces_at}
-use Rattle.mask_syntax.specs.Read.{all_or_first}
+use Rattle.term_text.specs.Pieces.{Piece, pieces_at}
+use Rattle.term_text.specs.Verdict.{all_or_first}
 use Rattle.mask_syntax.specs.Term.{leaf_piece, term_reading, noise_of}
 
 -- the byte between two terms: a space

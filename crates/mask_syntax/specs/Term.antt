@@ -5,8 +5,8 @@ use Rattle.edit_terms.specs.declared.mask.Sign.{Sign}
 use Rattle.edit_terms.specs.declared.mask.Sign.TheVariants.{Not, Below, Above}
 use Rattle.edit_terms.specs.declared.mask.Term.{Term}
 use Rattle.block_state.specs.declared.term_fault.TermFault.{TermFault}
-use Rattle.mask_syntax.specs.Pieces.{Piece}
-use Rattle.mask_syntax.specs.Read.{verdict_map}
+use Rattle.term_text.specs.Pieces.{Piece}
+use Rattle.term_text.specs.Verdict.{verdict_map}
 use Rattle.mask_syntax.specs.Leaf.{leaf_reading}
 
 -- one of the bytes ! > <

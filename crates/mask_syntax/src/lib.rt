@@ -8,7 +8,6 @@
 mod chance;
 mod leaf;
 mod mask;
-mod pieces;
 mod properties;
 mod signs;
 mod state;

@@ -3,15 +3,15 @@ ghost use Rattle.std.specs.Prelude.{◌≡◌, ◌≤◌, ◌+◌, true, Ok, len
 ghost use Rattle.edit_terms.specs.Mask.{noise_leaves};
 ghost use Rattle.run_terms.specs.Limits.{is_leaf_within, is_mask_within};
 ghost use Rattle.mask_syntax.specs.Read.{Gives, Tells};
-ghost use Rattle.mask_syntax.specs.Cursor.{piece_now};
+ghost use Rattle.term_text.specs.Cursor.{piece_now};
 ghost use Rattle.mask_syntax.specs.Term.{leaf_piece, noise_of};
 ghost use Rattle.mask_syntax.specs.Mask.{judged, terms_reading, term_pieces, mask_of_text};
 
-use crate::pieces::{Piece, Pieces};
 use crate::term::{leaf_piece, noise_of, read_term};
 use block_state::TermFault;
 use edit_terms::{Items, Mask, Term};
 use std::alloc::Global;
+use term_text::{Piece, Pieces};
 
 /// How many noise leaves a mask may have.
 const MOST_NOISE: u32 = 4;
@@ -45,7 +45,7 @@ pub fn read_mask(alloc: Global, text: &[u8]) -> Result<Mask, TermFault>
 }
 
 /// The terms in their order.
-#[tactic(auto, using(crate::proofs::Joined::joined_none, crate::proofs::Joined::joined_more, crate::proofs::Joined::joined_all, crate::proofs::Within::none_within, crate::proofs::Within::one_within, crate::proofs::Within::mask_within))]
+#[tactic(auto, using(term_text::proofs::Joined::joined_none, term_text::proofs::Joined::joined_more, term_text::proofs::Joined::joined_all, crate::proofs::Within::none_within, crate::proofs::Within::one_within, crate::proofs::Within::mask_within))]
 fn read_terms(alloc: Global, text: &[u8]) -> Result<Vec<Term>, TermFault>
     requires { length text.now ≤ 1048576 }
     ensures read { Gives (λ terms. terms.items) (terms_reading (term_pieces text.now)) result }

@@ -2,11 +2,12 @@
 ghost use Rattle.std.specs.Prelude.{◌≡◌};
 ghost use Rattle.edit_terms.specs.StateText.{state_reading};
 ghost use Rattle.mask_syntax.specs.Read.{Gives};
-ghost use Rattle.mask_syntax.specs.Leaf.{at_place, error_at};
+ghost use Rattle.term_text.specs.Part.{at_place};
 
-use block_state::{StateFault, TermFault, read_state};
+use block_state::{TermFault, read_state};
 use edit_terms::BlockState;
 use std::alloc::Global;
+use term_text::error_at;
 
 /// The state of a text that begins at this place.
 #[tactic(auto, using(crate::proofs::States::told_at))]
@@ -16,15 +17,5 @@ pub(crate) fn state_at(alloc: Global, at: u32, text: &[u8]) -> Result<BlockState
     match read_state(alloc, text) {
         Ok(state) => Ok(state),
         Err(fault) => Err(error_at(at, fault)),
-    }
-}
-
-/// The error of a text that begins at this place.
-pub(crate) fn error_at(at: u32, fault: StateFault) -> TermFault
-    ensures { result ≡ error_at at fault }
-{
-    match fault {
-        StateFault::Memory => TermFault::Memory,
-        _ => TermFault::State { at, fault },
     }
 }

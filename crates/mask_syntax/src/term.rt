@@ -3,15 +3,15 @@ ghost use Rattle.std.specs.Prelude.{◌≡◌, ◌≤◌, ◌+◌, true, length,
 ghost use Rattle.edit_terms.specs.Mask.{noise_leaves};
 ghost use Rattle.run_terms.specs.Limits.{is_leaf_within};
 ghost use Rattle.mask_syntax.specs.Read.{Gives};
-ghost use Rattle.mask_syntax.specs.Cursor.{piece_now};
+ghost use Rattle.term_text.specs.Cursor.{piece_now};
 ghost use Rattle.mask_syntax.specs.Term.{begins_noise, leaf_piece, term_reading, noise_of};
 
 use crate::leaf::read_leaf;
-use crate::pieces::Piece;
 use crate::signs::{sign_count, signs_of};
 use block_state::TermFault;
 use edit_terms::Term;
 use std::alloc::Global;
+use term_text::Piece;
 
 /// The term of a piece: its signs and its leaf.
 pub(crate) fn read_term(alloc: Global, piece: &Piece) -> Result<Term, TermFault>

@@ -1,19 +1,20 @@
 //! States with commas between.
 ghost use Rattle.std.specs.Prelude.{◌≡◌, ◌≤◌, ◌+◌, length, map};
 ghost use Rattle.edit_terms.specs.StateText.{comma};
-ghost use Rattle.mask_syntax.specs.Pieces.{pieces_at};
-ghost use Rattle.mask_syntax.specs.Cursor.{piece_now};
-ghost use Rattle.mask_syntax.specs.Read.{Gives, all_or_first};
+ghost use Rattle.term_text.specs.Pieces.{pieces_at};
+ghost use Rattle.term_text.specs.Cursor.{piece_now};
+ghost use Rattle.mask_syntax.specs.Read.{Gives};
+ghost use Rattle.term_text.specs.Verdict.{all_or_first};
 ghost use Rattle.mask_syntax.specs.Leaf.{member_reading};
 
-use crate::pieces::{Piece, Pieces};
 use crate::state::state_at;
 use block_state::TermFault;
 use edit_terms::{BlockState, Items};
 use std::alloc::Global;
+use term_text::{Piece, Pieces};
 
 /// The states of a text that begins at this place, with commas between.
-#[tactic(auto, using(crate::proofs::Joined::joined_none, crate::proofs::Joined::joined_more, crate::proofs::Joined::joined_all))]
+#[tactic(auto, using(term_text::proofs::Joined::joined_none, term_text::proofs::Joined::joined_more, term_text::proofs::Joined::joined_all))]
 pub(crate) fn read_states(
     alloc: Global,
     at: u32,

@@ -2,10 +2,10 @@
 use Rattle.std.proofs.Common.{◌≡◌, ℕ, ◌+◌, List, [], ◌∷◌, ◌++◌, map, Ok, ap, ◌∙◌}
 use Rattle.std.specs.List.{enumerate_from}
 use Rattle.edit_terms.specs.declared.pattern.Entry.{Entry}
-use Rattle.pattern_syntax.specs.Pieces.{Piece}
-use Rattle.pattern_syntax.specs.Read.{all_or_first}
+use Rattle.term_text.specs.Pieces.{Piece}
+use Rattle.term_text.specs.Verdict.{all_or_first}
 use Rattle.pattern_syntax.specs.Pattern.{judged}
-use Rattle.pattern_syntax.proofs.Joined.{joined, joined_more}
+use Rattle.term_text.proofs.Joined.{joined, joined_more}
 
 -- one more entry is read
 pub joined_next : (entries : List Entry) (count : ℕ) (entry : Entry) (p : Piece) (pieces : List Piece) → judged (count, p) ≡ Ok entry → joined entries (all_or_first (map judged (enumerate_from count (p ∷ pieces)))) ≡ joined (entries ++ entry ∷ []) (all_or_first (map judged (enumerate_from (count + 1) pieces)))

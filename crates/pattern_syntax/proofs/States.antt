@@ -8,7 +8,8 @@ use Rattle.block_state.specs.declared.fault.StateFault.TheVariants as faults
 use Rattle.block_state.specs.Read as states
 use Rattle.block_state.specs.Read.{name_reading}
 use Rattle.pattern_syntax.specs.Read.{Tells}
-use Rattle.pattern_syntax.specs.Value.{at_place, error_at, properties_listed, properties_reading, has_opening}
+use Rattle.pattern_syntax.specs.Value.{has_opening}
+use Rattle.term_text.specs.Part.{at_place, error_at, properties_listed, properties_reading}
 
 -- an error of a part is one of the pattern, at the part's place
 pub told_at : {A : Type 0} (at : ℕ) (reading : Result A TextFault) (fault : StateFault) → states.Tells reading fault → Tells (at_place at reading) (error_at at fault)
@@ -17,18 +18,6 @@ told_at at reading faults.BadProperty h = ap (at_place at) h
 told_at at reading faults.RepeatedKey h = ap (at_place at) h
 told_at at reading faults.TooManyProperties h = ap (at_place at) h
 told_at at reading faults.Memory h = tt
-
--- the properties of a verdict on a state
-abbrev pub its_properties : Result State TextFault → Result (List (List ℕ × List ℕ)) TextFault
-its_properties (Ok s) = Ok s.properties
-its_properties (Err fault) = Err fault
-
--- properties are read as those of a state of any name
-pub properties_of_state : (rest : List ℕ) → properties_reading rest ≡ its_properties (state_reading (codes "a[" ++ rest))
-properties_of_state rest = elim (listed_in (cut_at opening rest)) as (λ r. properties_listed r ≡ its_properties (state_listed (codes "minecraft:a") r)) [
-  | Ok listed ↦ refl
-  | Err fault ↦ refl
-]
 
 -- the name of a verdict on a state
 abbrev pub its_name : Result State TextFault → Result (List ℕ) TextFault

@@ -6,13 +6,13 @@ use Rattle.std.proofs.lemmas.List.{length-map}
 use Rattle.std.proofs.lemmas.List.FromFn.{length-enumerate_from}
 use Rattle.block_state.specs.declared.term_fault.TermFault.{TermFault}
 use Rattle.edit_terms.specs.StateText.{comma}
-use Rattle.pattern_syntax.specs.Read.{verdict_map, all_or_first}
+use Rattle.term_text.specs.Verdict.{verdict_map, all_or_first}
 use Rattle.pattern_syntax.specs.Pattern.{judged, entries_reading}
 use Rattle.std.proofs.lemmas.List.Folds.{list_all-append}
 use Rattle.std.proofs.lemmas.Bool.Decides.{nat_tests}
 use Rattle.edit_terms.specs.declared.pattern.Entry.{Entry}
 use Rattle.run_terms.specs.Limits.{is_one_of, is_pattern_within}
-use Rattle.pattern_syntax.specs.Pieces.{Piece, is_inside_after, ends_piece, pieces_from, placed, pieces_at}
+use Rattle.term_text.specs.Pieces.{Piece, is_inside_after, ends_piece, pieces_from, placed, pieces_at}
 
 -- so many entries within the limits
 pub record AreWithin (entries : List Entry) (count : ℕ) : Type 0 where

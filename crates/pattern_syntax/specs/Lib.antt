@@ -1,5 +1,3 @@
-pub mod Pieces
-pub mod Cursor
 pub mod Read
 pub mod Weight
 pub mod Value

@@ -6,8 +6,8 @@ use Rattle.edit_terms.specs.declared.pattern.Pattern.{Pattern}
 use Rattle.edit_terms.specs.StateText.{comma}
 use Rattle.block_state.specs.declared.term_fault.TermFault.{TermFault}
 use Rattle.block_state.specs.declared.term_fault.TermFault.TheVariants.{Weight, TooManyEntries}
-use Rattle.pattern_syntax.specs.Pieces.{Piece, pieces_at, place_from}
-use Rattle.pattern_syntax.specs.Read.{verdict_map, all_or_first}
+use Rattle.term_text.specs.Pieces.{Piece, pieces_at, place_from}
+use Rattle.term_text.specs.Verdict.{verdict_map, all_or_first}
 use Rattle.pattern_syntax.specs.Weight.{weight_of}
 use Rattle.pattern_syntax.specs.Value.{value_reading}
 

@@ -1,19 +1,8 @@
--- What a list of verdicts comes to, and what an error of a reader says of the text.
+-- What an answer of a reader says of the text.
 use Rattle.std.specs.Prelude.{◌≡◌, List, [], ◌∷◌, Result, Ok, Err, MatchResult}
 use Rattle.block_state.specs.declared.fault.StateFault.TheVariants as faults
 use Rattle.block_state.specs.declared.term_fault.TermFault.{TermFault}
 use Rattle.block_state.specs.declared.term_fault.TermFault.TheVariants.{Empty, Unknown, State, Number, Weight, TooManyNoise, TooManyEntries, Memory}
-
--- the same verdict on what is made of the value
-abbrev pub verdict_map : {A B : Type 0} → (A → B) → Result A TermFault → Result B TermFault
-verdict_map f (Ok x) = Ok (f x)
-verdict_map f (Err fault) = Err fault
-
--- all values, where each verdict has one; else the first fault
-abbrev pub all_or_first : {A : Type 0} → List (Result A TermFault) → Result (List A) TermFault
-all_or_first [] = Ok []
-all_or_first (Ok x ∷ more) = verdict_map (λ xs. x ∷ xs) (all_or_first more)
-all_or_first (Err fault ∷ more) = Err fault
 
 -- What an error of a pattern's reader says of a text that reads as this: it reads as that fault, which is none
 -- of a mask, and hides no want of memory. `Memory` alone says nothing of the text.

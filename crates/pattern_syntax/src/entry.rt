@@ -2,15 +2,15 @@
 ghost use Rattle.std.specs.Prelude.{◌≡◌, ◌≤◌, ◌+◌, true, length, IfOk};
 ghost use Rattle.run_terms.specs.Limits.{is_one_of};
 ghost use Rattle.pattern_syntax.specs.Read.{Gives};
-ghost use Rattle.pattern_syntax.specs.Cursor.{piece_now};
+ghost use Rattle.term_text.specs.Cursor.{piece_now};
 ghost use Rattle.pattern_syntax.specs.Pattern.{entry_reading};
 
-use crate::pieces::{Piece, first_outside};
 use crate::value::read_value;
 use crate::weight::weight_of;
 use block_state::TermFault;
 use edit_terms::Entry;
 use std::alloc::Global;
+use term_text::{Piece, first_outside};
 
 /// The entry of a piece: a value, or a weight, `%` and a value.
 pub(crate) fn read_entry(alloc: Global, piece: &Piece) -> Result<Entry, TermFault>

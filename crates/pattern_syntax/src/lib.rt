@@ -8,7 +8,6 @@
 mod entry;
 mod naming;
 mod pattern;
-mod pieces;
 mod properties;
 mod state;
 mod value;

@@ -3,12 +3,13 @@ ghost use Rattle.std.specs.Prelude.{◌≡◌, ◌==◌, false};
 ghost use Rattle.block_state.specs.Read as states;
 ghost use Rattle.block_state.specs.Read.{name_reading};
 ghost use Rattle.pattern_syntax.specs.Read.{Gives};
-ghost use Rattle.pattern_syntax.specs.Value.{at_place, has_opening};
+ghost use Rattle.pattern_syntax.specs.Value.{has_opening};
+ghost use Rattle.term_text.specs.Part.{at_place};
 
-use crate::state::error_at;
 use block_state::{StateFault, TermFault, read_state};
 use edit_terms::{BlockName, Name};
 use std::alloc::Global;
+use term_text::error_at;
 
 /// The name of a text without brackets, whose value begins at this place.
 #[tactic(auto, using(crate::proofs::States::told_at))]

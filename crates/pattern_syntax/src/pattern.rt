@@ -3,16 +3,16 @@ ghost use Rattle.std.specs.Prelude.{◌≡◌, ◌≤◌, ◌<◌, ◌+◌, true
 ghost use Rattle.block_state.specs.declared.term_fault.TermFault.TheVariants.{Memory};
 ghost use Rattle.run_terms.specs.Limits.{is_one_of, is_pattern_within};
 ghost use Rattle.pattern_syntax.specs.Read.{Gives, Tells};
-ghost use Rattle.pattern_syntax.specs.Cursor.{piece_now};
+ghost use Rattle.term_text.specs.Cursor.{piece_now};
 ghost use Rattle.pattern_syntax.specs.Pattern.{judged, entries_reading, pattern_of_text};
-ghost use Rattle.pattern_syntax.specs.Pieces.{pieces_at};
+ghost use Rattle.term_text.specs.Pieces.{pieces_at};
 ghost use Rattle.edit_terms.specs.StateText.{comma};
 
 use crate::entry::read_entry;
-use crate::pieces::{Piece, Pieces};
 use block_state::TermFault;
 use edit_terms::{Entry, Items, Pattern};
 use std::alloc::Global;
+use term_text::{Piece, Pieces};
 
 /// How many entries a pattern may have.
 const MOST_ENTRIES: u32 = 32;
@@ -42,7 +42,7 @@ pub fn read_pattern(alloc: Global, text: &[u8]) -> Result<Pattern, TermFault>
 }
 
 /// The entries in their order.
-#[tactic(auto, using(crate::proofs::Joined::joined_none, crate::proofs::Entries::joined_next, crate::proofs::Joined::joined_all, crate::proofs::Within::none_within, crate::proofs::Within::one_within, crate::proofs::Within::pattern_within))]
+#[tactic(auto, using(term_text::proofs::Joined::joined_none, crate::proofs::Entries::joined_next, term_text::proofs::Joined::joined_all, crate::proofs::Within::none_within, crate::proofs::Within::one_within, crate::proofs::Within::pattern_within))]
 fn read_entries(alloc: Global, text: &[u8]) -> Result<Vec<Entry>, TermFault>
     requires { length text.now ≤ 1048576 }
     ensures read { Gives (λ entries. entries.items) (entries_reading (pieces_at comma 0 text.now)) result }

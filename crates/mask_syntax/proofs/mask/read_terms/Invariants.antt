@@ -1,8 +1,8 @@
 use Rattle.std.proofs.Common.{◌≡◌, map, length}
 use Rattle.std.specs.Prelude.{filter}
-use Rattle.mask_syntax.specs.Read.{all_or_first}
+use Rattle.term_text.specs.Verdict.{all_or_first}
 use Rattle.mask_syntax.specs.Mask.{has_bytes, counted, judged, terms_reading, term_pieces}
-use Rattle.mask_syntax.proofs.Joined.{joined}
+use Rattle.term_text.proofs.Joined.{joined}
 use Rattle.mask_syntax.proofs.Within.{AreWithin}
 use Rattle.mask_syntax.proofs.mask.read_terms.Given as goal
 

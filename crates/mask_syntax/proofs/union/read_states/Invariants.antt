@@ -1,9 +1,9 @@
 use Rattle.std.proofs.Common.{◌≡◌, map, length}
 use Rattle.edit_terms.specs.StateText.{comma}
-use Rattle.mask_syntax.specs.Pieces.{pieces_at}
-use Rattle.mask_syntax.specs.Read.{all_or_first}
+use Rattle.term_text.specs.Pieces.{pieces_at}
+use Rattle.term_text.specs.Verdict.{all_or_first}
 use Rattle.mask_syntax.specs.Leaf.{member_reading}
-use Rattle.mask_syntax.proofs.Joined.{joined}
+use Rattle.term_text.proofs.Joined.{joined}
 use Rattle.mask_syntax.proofs.union.read_states.Given as goal
 
 -- the states that were read, and the members that are left, are all of them

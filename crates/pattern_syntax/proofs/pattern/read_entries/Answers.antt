@@ -1,9 +1,9 @@
 use Rattle.std.proofs.Common.{map, sym, ap, ◌∙◌}
 use Rattle.std.specs.List.{enumerate_from}
-use Rattle.pattern_syntax.specs.Cursor.{piece_now}
-use Rattle.pattern_syntax.specs.Read.{all_or_first}
+use Rattle.term_text.specs.Cursor.{piece_now}
+use Rattle.term_text.specs.Verdict.{all_or_first}
 use Rattle.pattern_syntax.specs.Pattern.{judged}
-use Rattle.pattern_syntax.proofs.Joined.{joined}
+use Rattle.term_text.proofs.Joined.{joined}
 use Rattle.pattern_syntax.proofs.Entries.{joined_next}
 use Rattle.pattern_syntax.proofs.Within.{one_within}
 use Rattle.pattern_syntax.proofs.pattern.read_entries.Goals as goal

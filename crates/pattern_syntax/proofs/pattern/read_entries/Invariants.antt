@@ -1,10 +1,10 @@
 use Rattle.std.proofs.Common.{◌≡◌, map, length}
 use Rattle.std.specs.List.{enumerate_from}
 use Rattle.edit_terms.specs.StateText.{comma}
-use Rattle.pattern_syntax.specs.Pieces.{pieces_at}
-use Rattle.pattern_syntax.specs.Read.{all_or_first}
+use Rattle.term_text.specs.Pieces.{pieces_at}
+use Rattle.term_text.specs.Verdict.{all_or_first}
 use Rattle.pattern_syntax.specs.Pattern.{judged, entries_reading}
-use Rattle.pattern_syntax.proofs.Joined.{joined}
+use Rattle.term_text.proofs.Joined.{joined}
 use Rattle.pattern_syntax.proofs.Within.{AreWithin}
 use Rattle.pattern_syntax.proofs.pattern.read_entries.Given as goal
 

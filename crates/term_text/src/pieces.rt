@@ -1,16 +1,13 @@
 //! Cutting a text at the separators outside brackets.
 ghost use Rattle.std.specs.Prelude.{◌≡◌, false, ◌<◌, ◌≤◌, ◌+◌, ◌∷◌, [], length, MatchOption, IfSome, Option, option_map};
-ghost use Rattle.mask_syntax.specs.Pieces.{Piece, is_inside_after, ends_piece, pieces_from, pieces_at};
-ghost use Rattle.mask_syntax.specs.Cursor.{piece_now, place_from};
+ghost use Rattle.term_text.specs.Pieces.{Piece, is_inside_after, ends_piece, pieces_from, pieces_at, place_from};
+ghost use Rattle.term_text.specs.Cursor.{piece_now};
 
 use std::marker::Model;
 
-/// The most bytes that a text has.
-pub(crate) const LONGEST: usize = 1_048_576;
-
 /// Bytes of a text and their place, a number of bytes from the text's start.
 #[derive(Clone, Copy)]
-pub(crate) struct Piece<'a> {
+pub struct Piece<'a> {
     pub at: u32,
     pub bytes: &'a [u8],
 }
@@ -18,7 +15,7 @@ pub(crate) struct Piece<'a> {
 /// The pieces of a text that are still to come, from left to right: contracts see their list. A separator
 /// inside brackets cuts nothing; inside is what lies between a `[` and the next `]`.
 #[derive(Drop)]
-pub(crate) struct Pieces<'a> {
+pub struct Pieces<'a> {
     separator: u8,
     at: u32,
     rest: Option<&'a [u8]>,
@@ -26,8 +23,8 @@ pub(crate) struct Pieces<'a> {
 
 impl<'a> Model for Pieces<'a> {
     ghost use Rattle.std.specs.Prelude.{◌≤◌, ◌+◌, List};
-    ghost use Rattle.mask_syntax.specs.Pieces.{Piece};
-    ghost use Rattle.mask_syntax.specs.Cursor.{pieces_left, room_left};
+    ghost use Rattle.term_text.specs.Pieces.{Piece};
+    ghost use Rattle.term_text.specs.Cursor.{pieces_left, room_left};
 
     ghost Value = { List Piece };
 
@@ -38,7 +35,7 @@ impl<'a> Model for Pieces<'a> {
 
 impl<'a> Pieces<'a> {
     /// The pieces of a text that begins at this place of the whole.
-    pub(crate) fn new(text: &'a [u8], at: u32, separator: u8) -> Pieces<'a>
+    pub fn new(text: &'a [u8], at: u32, separator: u8) -> Pieces<'a>
         requires { at + length text.now ≤ 1048576 }
         ensures { result ≡ pieces_at separator at text.now }
     {
@@ -50,7 +47,7 @@ impl<'a> Pieces<'a> {
     }
 
     /// The next piece. None where none is left.
-    pub(crate) fn next(&mut self) -> Option<Piece<'a>>
+    pub fn next(&mut self) -> Option<Piece<'a>>
         ensures cases { MatchOption result (self.old ≡ []) (λ p. self.old ≡ piece_now p ∷ self.new) }
         ensures within { IfSome result (λ p. p.at + length p.bytes.now ≤ 1048576) }
     {
@@ -77,9 +74,9 @@ fn split_outside(text: &[u8], separator: u8) -> Option<(&[u8], &[u8])>
     Some((&text[..end], &text[end + 1..]))
 }
 
-/// The place of the first separator outside brackets.
+/// The place of the first separator outside brackets. None exactly where there is none.
 #[tactic(auto, using(crate::proofs::Cuts::place_start, crate::proofs::Cuts::place_more, crate::proofs::Cuts::place_here, crate::proofs::Cuts::place_none))]
-fn first_outside(text: &[u8], separator: u8) -> Option<usize>
+pub fn first_outside(text: &[u8], separator: u8) -> Option<usize>
     ensures first { result ≡ place_from false separator text.now }
     ensures inside { IfSome result (λ at. at < length text.now) }
 {

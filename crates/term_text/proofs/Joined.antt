@@ -2,7 +2,7 @@
 use Rattle.std.proofs.Common.{◌≡◌, List, [], ◌∷◌, ◌++◌, Ok, Err, refl, ap, append_assoc, append-nil, sym}
 use Rattle.std.specs.Prelude.{Result}
 use Rattle.block_state.specs.declared.term_fault.TermFault.{TermFault}
-use Rattle.pattern_syntax.specs.Read.{verdict_map}
+use Rattle.term_text.specs.Verdict.{verdict_map}
 
 -- these values, and those that the verdict has
 abbrev pub joined : {A : Type 0} → List A → Result (List A) TermFault → Result (List A) TermFault

@@ -1,6 +1,6 @@
 use Rattle.std.proofs.Common.{◌≡◌, ◌+◌, false, option_map, drop}
-use Rattle.mask_syntax.specs.Cursor.{place_from}
-use Rattle.mask_syntax.proofs.pieces.first_outside.Given as goal
+use Rattle.term_text.specs.Pieces.{place_from}
+use Rattle.term_text.proofs.pieces.first_outside.Given as goal
 
 -- the first separator is the first of what is left
 abbrev pub invariant-loop-at : goal.invariant-loop-at

@@ -3,8 +3,8 @@ use Rattle.std.proofs.Common.{◌≡◌, ℕ, ◌+◌, ◌<◌, ◌≤◌, true,
 use Rattle.std.specs.Prelude.{Bool}
 use Rattle.std.specs.List.{onto_first}
 use Rattle.std.proofs.Math.ListN.{drop_of_length-le}
-use Rattle.pattern_syntax.specs.Pieces.{is_inside_after, ends_piece, pieces_from}
-use Rattle.pattern_syntax.specs.Pieces.{place_from}
+use Rattle.term_text.specs.Pieces.{is_inside_after, ends_piece, pieces_from}
+use Rattle.term_text.specs.Pieces.{place_from}
 
 -- the pieces of a text whose first separator is at this place
 abbrev by_place : List ℕ → ℕ → Option ℕ → List (List ℕ)

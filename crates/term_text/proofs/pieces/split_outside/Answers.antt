@@ -1,8 +1,8 @@
 use Rattle.std.proofs.Common.{◌≡◌, ◌+◌, ◌-◌, length, take, drop, sym}
 use Rattle.std.proofs.Math.Seq.{take-length}
 use Rattle.std.proofs.lemmas.List.{length-drop}
-use Rattle.mask_syntax.proofs.Cuts.{cut_first}
-use Rattle.mask_syntax.proofs.pieces.split_outside.Goals as goal
+use Rattle.term_text.proofs.Cuts.{cut_first}
+use Rattle.term_text.proofs.pieces.split_outside.Goals as goal
 
 pub returns-clause-cases : goal.returns-clause-cases
 returns-clause-cases c =
