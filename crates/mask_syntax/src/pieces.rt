@@ -5,9 +5,6 @@ ghost use Rattle.mask_syntax.specs.Cursor.{piece_now, place_from};
 
 use std::marker::Model;
 
-/// The most bytes that a text has.
-pub(crate) const LONGEST: usize = 1_048_576;
-
 /// Bytes of a text and their place, a number of bytes from the text's start.
 #[derive(Clone, Copy)]
 pub(crate) struct Piece<'a> {
