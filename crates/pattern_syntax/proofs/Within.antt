@@ -12,7 +12,7 @@ use Rattle.std.proofs.lemmas.List.Folds.{list_all-append}
 use Rattle.std.proofs.lemmas.Bool.Decides.{nat_tests}
 use Rattle.edit_terms.specs.declared.pattern.Entry.{Entry}
 use Rattle.run_terms.specs.Limits.{is_one_of, is_pattern_within}
-use Rattle.term_text.specs.Pieces.{Piece, is_inside_after, ends_piece, pieces_from, placed, pieces_at}
+use Rattle.term_text.specs.Pieces.{is_inside_after, ends_piece, pieces_from, placed, pieces_at}
 
 -- so many entries within the limits
 pub record AreWithin (entries : List Entry) (count : ℕ) : Type 0 where

@@ -1,5 +1,5 @@
 -- Which pattern a text stands for, or its first fault (patterns of WorldEdit 7, with limits of this project).
-use Rattle.std.specs.Prelude.{ℕ, ◌+◌, false, nat_le, if◌then◌else◌, List, take, drop, map, Option, Some, None, Result, Ok, Err}
+use Rattle.std.specs.Prelude.{ℕ, ◌+◌, false, nat_le, if◌then◌else◌, List, take, drop, map, Option, Some, None, Result, Err}
 use Rattle.std.specs.List.{enumerate_from}
 use Rattle.edit_terms.specs.declared.pattern.Entry.{Entry}
 use Rattle.edit_terms.specs.declared.pattern.Pattern.{Pattern}

@@ -3,8 +3,7 @@ use Rattle.std.proofs.Common.{◌≡◌, ℕ, ◌+◌, ◌<◌, ◌≤◌, true,
 use Rattle.std.specs.Prelude.{Bool}
 use Rattle.std.specs.List.{onto_first}
 use Rattle.std.proofs.Math.ListN.{drop_of_length-le}
-use Rattle.term_text.specs.Pieces.{is_inside_after, ends_piece, pieces_from}
-use Rattle.term_text.specs.Pieces.{place_from}
+use Rattle.term_text.specs.Pieces.{is_inside_after, ends_piece, pieces_from, place_from}
 
 -- the pieces of a text whose first separator is at this place
 abbrev by_place : List ℕ → ℕ → Option ℕ → List (List ℕ)
@@ -13,7 +12,7 @@ by_place text c (Some at) = take at text ∷ pieces_from false c (drop (at + 1) 
 
 by_place_more : (b c : ℕ) (bytes : List ℕ) (p : Option ℕ) → onto_first b (by_place bytes c p) ≡ by_place (b ∷ bytes) c (option_map (λ n. n + 1) p)
 by_place_more b c bytes None = refl
-by_place_more b c bytes (Some k) = rw (add-one, add-one)
+by_place_more b c bytes (Some k) = simp add-one
 
 -- a text is cut at its first separator
 pieces_by_place : (inside : Bool) (c : ℕ) (text : List ℕ) → pieces_from inside c text ≡ by_place text c (place_from inside c text)

@@ -1,8 +1,8 @@
 -- What contracts see of the reader's place among the pieces of a text.
-use Rattle.std.specs.Prelude.{ℕ, ◌+◌, Bool, if◌then◌else◌, List, [], ◌∷◌, length, Option, Some, None, option_map}
+use Rattle.std.specs.Prelude.{ℕ, ◌+◌, List, [], length, Option, Some, None}
 use Rattle.std.specs.Borrow.{Bor}
 use Rattle.term_text.specs.declared.pieces.Piece as code
-use Rattle.term_text.specs.Pieces.{Piece, is_inside_after, ends_piece, pieces_at}
+use Rattle.term_text.specs.Pieces.{Piece, pieces_at}
 
 -- a piece, without where its bytes lie in memory
 abbrev pub piece_now : code.Piece → Piece
