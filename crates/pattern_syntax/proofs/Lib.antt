@@ -1,0 +1,4 @@
+pub mod Digits
+pub mod States
+pub mod Within
+pub mod Entries

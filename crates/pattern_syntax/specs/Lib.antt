@@ -1,0 +1,4 @@
+pub mod Read
+pub mod Weight
+pub mod Value
+pub mod Pattern

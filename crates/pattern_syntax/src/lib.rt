@@ -1,0 +1,21 @@
+//! Patterns from their texts.
+//!
+//! It serves the reader of scripts. A text is read as exactly the pattern that the definitions in
+//! `specs/` give, which cut it into entries and judge each one alone, or refused with the first fault from
+//! the left and its place.
+#![tactic(auto)]
+
+mod entry;
+mod naming;
+mod pattern;
+mod properties;
+mod state;
+mod value;
+mod weight;
+
+pub use block_state::TermFault;
+pub use memory::Memory;
+pub use pattern::read_pattern;
+
+#[cfg(test)]
+mod tests;

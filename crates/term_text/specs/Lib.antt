@@ -1,0 +1,4 @@
+pub mod Pieces
+pub mod Cursor
+pub mod Verdict
+pub mod Part
