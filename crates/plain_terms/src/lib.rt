@@ -1,0 +1,10 @@
+//! Regions, masks, patterns and clipboards at one position of a world, evaluated plainly.
+//!
+//! The reference execution is made of it. Each call has the definition of `edit_terms` as its contract and
+//! a body that says the same in the shortest way, so that faster bodies can be tested against it.
+#![tactic(auto)]
+
+mod blocks;
+
+pub use blocks::Blocks;
+pub use memory::Memory;
