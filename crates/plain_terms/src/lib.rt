@@ -4,7 +4,15 @@
 //! a body that says the same in the shortest way, so that faster bodies can be tested against it.
 #![tactic(auto)]
 
+mod beside;
 mod blocks;
+mod gap;
+mod place;
+mod region;
+mod selection;
+mod whole;
 
 pub use blocks::Blocks;
 pub use memory::Memory;
+pub use region::is_inside;
+pub use selection::is_selected;
