@@ -1,1 +1,3 @@
 pub mod BlocksLemmas
+pub mod SightLemmas
+pub mod MapLemmas

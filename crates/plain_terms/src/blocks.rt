@@ -1,12 +1,14 @@
 //! A world's blocks.
 
-ghost use Rattle.std.specs.Prelude.{◌≡◌, ◌<◌, true, false, MatchOption, get_or, List, ℕ};
+ghost use Rattle.std.specs.Prelude.{◌≡◌, ◌<◌, false, MatchOption, get_or, is_some, option_copied};
+ghost use Rattle.std.specs.Option.{unwrap_or};
 ghost use Rattle.edit_terms.specs.Area.{holds, volume};
-ghost use Rattle.edit_terms.specs.World.{content_at, air_content};
-ghost use Rattle.plain_terms.specs.Shown.{IsNumbered, world_shown};
+ghost use Rattle.edit_terms.specs.StateText.{air};
+ghost use Rattle.edit_terms.specs.World.{air_content, state_at};
+ghost use Rattle.plain_terms.specs.Shown.{IsNumbered, StandsAt, world_shown};
 
 use block_palette::Palette;
-use edit_terms::{Content, Pos, WorldBox};
+use edit_terms::{BlockState, Content, Pos, WorldBox};
 use std::marker::Model;
 
 /// What stands in a world: contents by number, and the number of each position's content in index order.
@@ -57,9 +59,20 @@ impl<'a> Blocks<'a> {
 
     /// The content at a position. None exactly outside the box.
     pub fn at(&self, p: &Pos) -> Option<&'a Content>
-        ensures { MatchOption result (holds self.now.area p.now ≡ false) (λ c. (holds self.now.area p.now ≡ true) × (c.now ≡ content_at self.now p.now)) }
+        ensures { MatchOption result (holds self.now.area p.now ≡ false) (λ c. StandsAt self.now p.now c.now) }
     {
         let index = self.area.index_of(*p)?;
         Some(self.content(index))
+    }
+
+    /// The state at a position. None, exactly outside the box, stands for air.
+    pub fn state_at(&self, p: &Pos) -> Option<&'a BlockState>
+        ensures value { unwrap_or (option_copied result) air ≡ state_at self.now p.now }
+        ensures there { is_some result ≡ holds self.now.area p.now }
+    {
+        match self.at(p) {
+            None => None,
+            Some(content) => Some(&content.state),
+        }
     }
 }

@@ -6,13 +6,19 @@
 
 mod beside;
 mod blocks;
+mod draw;
 mod gap;
+mod likeness;
 mod place;
 mod region;
+mod scene;
+mod seen;
 mod selection;
+mod sight;
 mod whole;
 
 pub use blocks::Blocks;
 pub use memory::Memory;
 pub use region::is_inside;
+pub use scene::Scene;
 pub use selection::is_selected;
