@@ -1,3 +1,5 @@
 pub mod BlocksLemmas
 pub mod SightLemmas
 pub mod MapLemmas
+pub mod FarLemmas
+pub mod MaskLemmas

@@ -39,15 +39,15 @@ one_more : (signs : List Sign) (count : ℕ) (p : Pos) (s : Sight) (sign : Sign)
 one_more signs count p s sign so_far within is =
     let next : suc count ≡ count + 1 = omega arith in
     record {
-  same = λ leaf number scene.
-      so_far.same leaf number scene
-      ∙ ap (λ (left : List Sign). answered s.is_negated (signs_hold left leaf number scene (at_height p s.height))) (drop-cons signs count sign within)
-      ∙ ap (λ (first : Sign). answered s.is_negated (signs_hold (first ∷ drop (suc count) signs) leaf number scene (at_height p s.height))) (sym is)
-      ∙ step sign (drop (suc count) signs) p s leaf number scene
-      ∙ ap (λ (n : ℕ). answered (sight_after sign s).is_negated (signs_hold (drop n signs) leaf number scene (at_height p (sight_after sign s).height))) next;
-  low = low_after sign s count so_far.low;
-  high = high_after sign s count so_far.high;
-}
+      same = λ leaf number scene.
+          so_far.same leaf number scene
+          ∙ ap (λ (left : List Sign). answered s.is_negated (signs_hold left leaf number scene (at_height p s.height))) (drop-cons signs count sign within)
+          ∙ ap (λ (first : Sign). answered s.is_negated (signs_hold (first ∷ drop (suc count) signs) leaf number scene (at_height p s.height))) (sym is)
+          ∙ step sign (drop (suc count) signs) p s leaf number scene
+          ∙ ap (λ (n : ℕ). answered (sight_after sign s).is_negated (signs_hold (drop n signs) leaf number scene (at_height p (sight_after sign s).height))) next;
+      low = low_after sign s count so_far.low;
+      high = high_after sign s count so_far.high;
+    }
 
 pub sight_more : (signs : List Sign) (count : ℕ) (p : Pos) (s after : Sight) (sign : Sign) → after ≡ sight_after sign s → IsSightSoFar signs count p s → count < length signs → sign ≡ get_or signs count sign
     → IsSightSoFar signs (count + 1) p after

@@ -54,11 +54,7 @@ fn lifted(p: &Pos, sight: &Sight) -> Pos
 }
 
 /// The state that a sight from a position sees. None outside the box stands for air.
-pub(crate) fn seen_state<'a>(
-    blocks: &Blocks<'a>,
-    p: &Pos,
-    sight: &Sight,
-) -> Option<&'a BlockState>
+pub(crate) fn seen_state<'a>(blocks: &Blocks<'a>, p: &Pos, sight: &Sight) -> Option<&'a BlockState>
     ensures { unwrap_or (option_copied result) air ≡ state_at blocks.now (at_height p.now sight.now.height) }
 {
     match seen_block(blocks.area(), p, sight) {
