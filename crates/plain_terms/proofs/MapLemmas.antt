@@ -1,11 +1,13 @@
 -- Blocks of a world's box are on the map.
-use Rattle.std.proofs.Common.{◌≡◌, ℕ, Bool, true, false, ◌&&◌, ℤ, pos, negsuc, ◌+ℤ◌, ◌≤ℤ◌, ◌<ℤ◌, refl, arith}
+use Rattle.std.proofs.Common.{◌≡◌, ℕ, Bool, true, false, ◌&&◌, ℤ, pos, negsuc, ◌+ℤ◌, ◌≤ℤ◌, ◌<ℤ◌, refl, sym, ◌∙◌, arith}
 use Rattle.std.specs.Prelude.{int_le, int_lt}
 use Rattle.std.proofs.lemmas.Int.{ints}
 use Rattle.edit_terms.specs.declared.pos.Pos.{Pos}
 use Rattle.edit_terms.specs.Area.{Area, holds, is_from, is_world_box}
 use Rattle.edit_terms.proofs.AreaLemmas.{and_both, on_map, IsInRange}
+use Rattle.std.specs.Cmp.Derive.{both_true}
 use Rattle.clipboard_transform.specs.Bounds.{IsOnMap}
+use Rattle.plain_terms.specs.Places.{is_placed_on_map}
 
 -- one coordinate
 record IsAmong (first : ℤ) (count : ℕ) (v : ℤ) : Type 0 where
@@ -39,3 +41,20 @@ off_map a p fits off = by_test (holds a p) refl
         let map = held_on_map a p fits h in
         let low = map.least_y in let high = map.most_y in
         absurd (grind (arith, ints))
+
+-- nor is one off it along any axis
+pub off_any_map : (a : Area) (p : Pos) → is_world_box a ≡ true → is_placed_on_map p ≡ false → holds a p ≡ false
+off_any_map a p fits off = by_test (holds a p) refl
+  where
+    all_true : (x y z : Bool) → x ≡ true → y ≡ true → z ≡ true → (x && y && z) ≡ true
+    all_true x y z hx hy hz = both_true (both_true hx hy) hz
+
+    by_test : (b : Bool) → holds a p ≡ b → b ≡ false
+    by_test false h = refl
+    by_test true h =
+        let map = held_on_map a p fits h in
+        let x0 = map.least_x in let x1 = map.most_x in let y0 = map.least_y in let y1 = map.most_y in let z0 = map.least_z in let z1 = map.most_z in
+        let x : is_from (negsuc 33554431) 67108864 p.x ≡ true = grind (arith, ints) in
+        let y : is_from (negsuc 2047) 4096 p.y ≡ true = grind (arith, ints) in
+        let z : is_from (negsuc 33554431) 67108864 p.z ≡ true = grind (arith, ints) in
+        sym (all_true _ _ _ x y z) ∙ off

@@ -6,23 +6,33 @@
 
 mod beside;
 mod blocks;
+mod choice;
+mod clipboard;
+mod copied;
 mod draw;
 mod gap;
 mod leaf;
 mod likeness;
 mod mask;
+mod on_map;
+mod pasted;
+mod pattern;
 mod place;
 mod region;
+mod restating;
 mod scene;
 mod seen;
 mod seen_selection;
 mod selection;
 mod sight;
+mod tile;
 mod whole;
 
 pub use blocks::Blocks;
+pub use clipboard::Clipboard;
 pub use mask::is_allowed;
 pub use memory::Memory;
+pub use pattern::pattern_value;
 pub use region::is_inside;
 pub use scene::Scene;
 pub use selection::is_selected;
