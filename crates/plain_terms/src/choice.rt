@@ -23,7 +23,7 @@ fn chosen_from(word: u32, total: u128, entries: &[Entry]) -> Option<&Entry>
         if is_reached(word, total, sum, entry) {
             return Some(entry);
         }
-        sum += u128::from(entry.weight);
+        sum += u128::from(weight_of(entry));
     }
     None
 }
@@ -34,7 +34,7 @@ fn is_reached(word: u32, total: u128, sum: u128, entry: &Entry) -> bool
     requires sum { sum < 2 ^ 95 }
     ensures { result ≡ nat_lt (word * total) ((sum + entry.now.weight) * 2 ^ 32) }
 {
-    u128::from(word) * total < (sum + u128::from(entry.weight)) * 4_294_967_296
+    u128::from(word) * total < (sum + u128::from(weight_of(entry))) * 4_294_967_296
 }
 
 /// The sum of the weights.
@@ -44,7 +44,13 @@ fn total_weight(entries: &[Entry]) -> u128
 {
     let mut total = 0;
     for entry in entries {
-        total += u128::from(entry.weight);
+        total += u128::from(weight_of(entry));
     }
     total
+}
+
+fn weight_of(entry: &Entry) -> u32
+    ensures { result ≡ entry.now.weight }
+{
+    entry.weight
 }
