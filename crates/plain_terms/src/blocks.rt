@@ -12,6 +12,7 @@ use edit_terms::{BlockState, Content, Pos, WorldBox};
 use std::marker::Model;
 
 /// What stands in a world: contents by number, and the number of each position's content in index order.
+#[derive(Drop)]
 pub struct Blocks<'a> {
     area: &'a WorldBox,
     kinds: &'a Palette<Content>,

@@ -16,11 +16,7 @@ use edit_terms::{Clip, Content, Pos, WorldBox, inverse_transform};
 /// The content of the selected block of the world that a clipboard has at a relative position, before it
 /// is turned. None exactly where there is none.
 #[tactic(auto, using(crate::proofs::CopyLemmas::original_outside, crate::proofs::CopyLemmas::original_unselected, crate::proofs::CopyLemmas::original_selected))]
-pub(crate) fn copied_at<'a>(
-    clip: &Clip,
-    blocks: &Blocks<'a>,
-    relative: &Pos,
-) -> Option<&'a Content>
+pub(crate) fn copied_at<'a>(clip: &Clip, blocks: &Blocks<'a>, relative: &Pos) -> Option<&'a Content>
     requires { IsOnMap clip.now.origin }
     ensures { option_copied result ≡ original clip.now blocks.now relative.now }
 {

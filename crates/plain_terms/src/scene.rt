@@ -5,6 +5,7 @@ use std::marker::Model;
 
 /// What a mask reads: the world before the ticket, the player's selection then, the run's seed and the
 /// ticket.
+#[derive(Drop)]
 pub struct Scene<'a> {
     pub blocks: &'a Blocks<'a>,
     pub selection: Option<Selection>,
