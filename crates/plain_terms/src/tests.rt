@@ -193,31 +193,38 @@ fn weights_share_out_the_words(rt: HostRuntime) -> Result<(), Fail> {
 fn values_change_states_and_keep_entities(rt: HostRuntime) -> Result<(), Fail> {
     let alloc = rt.alloc();
     let old = chest(alloc)?;
-    let pairs = [("facing", "east"), ("waterlogged", "true")];
-    let north = [("facing", "north")];
-    for (value, named, wanted, is_kept) in [
+    let added = [("facing", "east"), ("waterlogged", "true")];
+    for (value, named, facing, is_kept) in [
         (
-            Value::Put(properties(alloc, &pairs)?),
+            Value::Put(properties(alloc, &added)?),
             "minecraft:chest",
-            pairs.as_slice(),
+            "east",
             true,
         ),
         (
             Value::Rename(name(alloc, "minecraft:furnace")?),
             "minecraft:furnace",
-            &north,
+            "north",
             false,
         ),
         (
-            Value::RenamePut(state(alloc, "minecraft:chest", &pairs)?),
-            "minecraft:chest",
-            &pairs,
-            true,
+            Value::RenamePut(state(alloc, "minecraft:barrel", &added)?),
+            "minecraft:barrel",
+            "east",
+            false,
         ),
     ] {
         let entries = vec![in alloc; Entry { weight: 1, value }]?;
         let new = pattern_value(alloc, &pattern(entries), None, 0, 2, &at(0, 0, 0), &old)?;
-        assert!(rt; new.state == state(alloc, named, wanted)?, "{named}");
+        assert!(rt; new.state.name() == named.as_bytes());
+        let turned = new.state.properties().get(b"facing".as_slice());
+        assert!(rt; turned == Some(facing.as_bytes()), "{named}");
+        let is_wet = new
+            .state
+            .properties()
+            .get(b"waterlogged".as_slice())
+            .is_some();
+        assert_eq!(rt; is_wet, facing == "east", "{named}");
         assert_eq!(rt; new.entity.is_some(), is_kept, "{named}");
     }
     Ok(())
