@@ -3,4 +3,6 @@ pub mod ListLemmas
 pub mod RunLemmas
 pub mod ReadLemmas
 pub mod KeptLemmas
-pub mod PartLemmas
+pub mod CellLemmas
+pub mod SearchLemmas
+pub mod SortedLemmas

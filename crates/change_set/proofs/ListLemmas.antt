@@ -190,13 +190,18 @@ pub rises_kept : (a : Area) (p : Proposed → Bool) (cs : List Proposed) (i : �
     → rises a (positions (filter p (take i cs)) ++ c.at ∷ []) ≡ true
 rises_kept a p cs i c there h = rises_filter a 0 p (take i cs) c.at (rises_up_to a 0 cs i c there h)
 
+-- behind a position may come each one with a higher place
+pub rises_two : (a : Area) (ps : List Pos) (p q : Pos) → rises a (ps ++ p ∷ []) ≡ true → holds a p ≡ true → holds a q ≡ true → index_of a p < index_of a q → rises a (ps ++ p ∷ q ∷ []) ≡ true
+rises_two a ps p q h held_p held_q above =
+    let two : rises_from a (index_of a p) (p ∷ q ∷ []) ≡ true =
+    rising_from_first a (index_of a p) p (q ∷ []) (record { held = held_p; from = omega arith; rest = rising_from_first a (index_of a p + 1) q [] (record { held = held_q; from = omega (arith, above); rest = refl }) }) in
+    rises_join a 0 ps (q ∷ []) p h two
+
 -- behind a change may come each position with a higher place
 pub follows_push : (a : Area) (list : List Proposed) (c : Proposed) (q : Pos) → rises a (positions list ++ c.at ∷ []) ≡ true → holds a c.at ≡ true → holds a q ≡ true → index_of a c.at < index_of a q
     → rises a (positions (list ++ c ∷ []) ++ q ∷ []) ≡ true
 follows_push a list c q h held_c held above =
-    let two : rises_from a (index_of a c.at) (c.at ∷ q ∷ []) ≡ true =
-    rising_from_first a (index_of a c.at) c.at (q ∷ []) (record { held = held_c; from = omega arith; rest = rising_from_first a (index_of a c.at + 1) q [] (record { held = held; from = omega (arith, above); rest = refl }) }) in
-    let joined : rises a (positions list ++ c.at ∷ q ∷ []) ≡ true = rises_join a 0 (positions list) (q ∷ []) c.at h two in
+    let joined : rises a (positions list ++ c.at ∷ q ∷ []) ≡ true = rises_two a (positions list) c.at q h held_c held above in
     rw (map-append (λ (d : Proposed). d.at) list (c ∷ []), append_assoc (positions list) (c.at ∷ []) (q ∷ [])) joined
 
 -- the positions of a list rise with one more

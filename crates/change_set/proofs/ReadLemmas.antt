@@ -1,5 +1,6 @@
 -- What stands at a place of the changes that runs keep: the run that starts last at or before the place has it.
-use Rattle.std.proofs.Common.{◌≡◌, ℕ, zero, suc, ◌+◌, ◌-◌, ◌<◌, ◌≤◌, List, [], ◌∷◌, ◌++◌, length, Option, Some, None, slice_get, option_map, MatchOption, refl, sym, ap, ◌∙◌, subst, arith}
+use Rattle.std.proofs.Common.{◌≡◌, ℕ, zero, suc, ◌+◌, ◌-◌, ◌<◌, ◌≤◌, List, [], ◌∷◌, ◌++◌, length, Option, Some, None, slice_get, get_or, option_map, MatchOption, refl, sym, ap, ◌∙◌, subst, arith}
+use Rattle.std.specs.List.Sorted.{IsNonDecreasingBy}
 use Rattle.std.proofs.lemmas.List.{length-append, length-map}
 use Rattle.std.proofs.lemmas.Option.{slice_get-map, slice_get_past}
 use Rattle.std.specs.Option.{option_and_then}
@@ -153,12 +154,25 @@ length-afters list = length-map list (λ (d : Proposed). (d.at, d.after))
 pub length-befores : (list : List Proposed) → length (befores list) ≡ length list
 length-befores list = length-map list (λ (d : Proposed). (d.at, d.before))
 
--- the first run starts at the first change
-pub first_start : (a : Area) (runs : List Run) (run : Run) (i : ℕ) → AreRunsFrom a 0 runs → slice_get runs 0 ≡ Some run → run.start ≤ i
-first_start a [] run i each there = absurd cc
-first_start a (r ∷ runs) run i each there =
-    let same : r ≡ run = cc in
-    let start_is : r.start ≡ 0 = each.0.start_is in
-    subst (λ (s : Run). s.start ≤ i) same (omega (arith, start_is))
+-- the starts of runs rise
+start_from : (a : Area) (start : ℕ) (runs : List Run) (j : ℕ) (d : Run) → AreRunsFrom a start runs → j < length runs → start ≤ (get_or runs j d).start
+start_from a start [] j d each below = absurd (omega (arith, below))
+start_from a start (run ∷ runs) zero d each below = let first = each.0.start_is in omega (arith, first)
+start_from a start (run ∷ runs) (suc j) d each below =
+    let rest = start_from a (start + run.length) runs j d each.1 (omega (arith, below)) in
+    omega (arith, rest)
+
+starts_rise : (a : Area) (start : ℕ) (runs : List Run) → AreRunsFrom a start runs → (i j : ℕ) (d : Run) → i ≤ j → j < length runs → (get_or runs i d).start ≤ (get_or runs j d).start
+starts_rise a start [] each i j d order below = absurd (omega (arith, below))
+starts_rise a start (run ∷ runs) each zero zero d order below = omega arith
+starts_rise a start (run ∷ runs) each zero (suc j) d order below =
+    let first = each.0.start_is in
+    let rest = start_from a (start + run.length) runs j d each.1 (omega (arith, below)) in
+    omega (arith, first, rest)
+starts_rise a start (run ∷ runs) each (suc i) zero d order below = absurd (omega (arith, order))
+starts_rise a start (run ∷ runs) each (suc i) (suc j) d order below = starts_rise a (start + run.length) runs each.1 i j d (omega (arith, order)) (omega (arith, below))
+
+pub starts_sorted : (a : Area) (runs : List Run) → AreRunsFrom a 0 runs → IsNonDecreasingBy (λ (run : Run). run.start) runs
+starts_sorted a runs each = starts_rise a 0 runs each
 
 pub ruleset as_many = (length-afters, length-befores)

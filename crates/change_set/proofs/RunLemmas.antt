@@ -1,6 +1,5 @@
 -- Runs that keep changes go on keeping them with a stretch more: in a run of its own, or in a longer last run.
 use Rattle.std.proofs.Common.{◌≡◌, ℕ, zero, suc, ◌+◌, ◌<◌, ◌≤◌, Bool, true, false, ◌&&◌, cond, List, [], ◌∷◌, ◌++◌, map, length, Some, slice_get, set, IfSome, refl, sym, ap, ◌∙◌, subst, arith, eqb, append_assoc}
-use Rattle.std.specs.List.{list_all}
 use Rattle.std.specs.Cmp.Derive.{both_true}
 use borrow.Author.Tests.{eqb-true}
 use Rattle.std.proofs.lemmas.List.{map-append, append-nil, length-append, length-map}
@@ -15,9 +14,9 @@ use Rattle.change_set.specs.declared.proposed.Proposed.{Proposed}
 use Rattle.change_set.specs.declared.run.Run.{Run}
 use Rattle.change_set.specs.Chunk.{chunk_part, place_in_chunk}
 use Rattle.change_set.specs.Changes.{positions, rises_from, rises, is_change, ChangeList, stretch, kept_stretch, kept_change, run_changes, changes_of, breaks_behind, breaks, goes_on_behind}
-use Rattle.change_set.specs.Runs.{IsRun, AreRunsFrom, AreKept, follows, with_last_longer}
-use Rattle.change_set.proofs.ChunkLemmas.{same_part, part_held}
-use Rattle.change_set.proofs.ListLemmas.{rises_join, rises_length, cell, cells, length-cells, cells-append, cells_rise, breaks_behind-cells, goes_on_behind-append, goes_on_behind-cells, breaks-push, cells_change, block_of_part}
+use Rattle.change_set.specs.Runs.{IsRun, AreRunsFrom, AreKept, AreChangesKept, follows, with_last_longer}
+use Rattle.change_set.proofs.ChunkLemmas.{same_part, part_held, in_part, part_order}
+use Rattle.change_set.proofs.ListLemmas.{rising_from_first, rises_lower, rises_join, rises_length, cell, cells, length-cells, cells-append, cells_rise, breaks_behind-cells, goes_on_behind-append, goes_on_behind-cells, breaks-push, cells_change, block_of_part}
 
 -- what holds once a stretch of n changes stands behind the changes that runs keep
 pub record IsExtended (a : Area) (runs : List Run) (count : ℕ) (first : Pos) (n : ℕ) (before after : BlockContent) (longer : List Run) : Type 0 where
@@ -26,11 +25,10 @@ pub record IsExtended (a : Area) (runs : List Run) (count : ℕ) (first : Pos) (
   pub small : count + n ≤ 33554432
 
 -- where a stretch may stand behind changes
-pub record CanExtend (a : Area) (list : List Proposed) (first : Pos) (n : ℕ) (before after : BlockContent) : Type 0 where
+pub record CanExtend (a : Area) (list : List Proposed) (first : Pos) (n : ℕ) : Type 0 where
   pub rising : rises a (positions list ++ first ∷ []) ≡ true
   pub fits : place_in_chunk a first + n ≤ volume (chunk_part a first)
   pub some : 0 < n
-  pub differs : same_content before after ≡ false
 
 -- the position behind rising ones is of the box
 held_last : (a : Area) (least : ℕ) (ps : List Pos) (p : Pos) → rises_from a least (ps ++ p ∷ []) ≡ true → holds a p ≡ true
@@ -44,17 +42,16 @@ stretch_first a first n b c held =
     let e = position_at_index (chunk_part a first) first (part_held a first held) in
     ap (λ (p : Pos). record { at = p; before = b; after = c } ∷ cells (chunk_part a first) b c (place_in_chunk a first + 1) n) e
 
--- the facts of the list alone: it rises, it changes, and it isn't too long
+-- the facts of the list alone: it rises, and it isn't too long
 record IsLonger (a : Area) (list longer : List Proposed) (n : ℕ) : Type 0 where
   pub rising : rises a (positions longer) ≡ true
-  pub changing : list_all is_change longer ≡ true
   pub length_is : length longer ≡ length list + n
   pub small : length longer ≤ 33554432
 
-longer_list : (a : Area) (list : List Proposed) (first : Pos) (n : ℕ) (b c : BlockContent) → is_world_box a ≡ true → CanExtend a list first n b c → list_all is_change list ≡ true
+longer_list : (a : Area) (list : List Proposed) (first : Pos) (n : ℕ) (b c : BlockContent) → is_world_box a ≡ true → CanExtend a list first n
     → IsLonger a list (list ++ stretch a first n b c) n
-longer_list a list first zero b c box can changing = absurd (omega (arith, can.some))
-longer_list a list first (suc n) b c box can changing =
+longer_list a list first zero b c box can = absurd (omega (arith, can.some))
+longer_list a list first (suc n) b c box can =
     let held = held_last a 0 (positions list) first can.rising in
     let part = chunk_part a first in
     let place = place_in_chunk a first in
@@ -72,13 +69,12 @@ longer_list a list first (suc n) b c box can changing =
     let small_box = (limits a box).small in
     record {
       rising = rising;
-      changing = rw (list_all-append is_change list (cells part b c place (suc n))) (both_true changing (cells_change part b c place (suc n) can.differs));
       length_is = long;
       small = omega (arith, room, as_many, small_box);
     }
 
 -- the breaks of a list with a stretch behind it
-stretch_breaks : (a : Area) (list : List Proposed) (first : Pos) (n : ℕ) (b c : BlockContent) → is_world_box a ≡ true → CanExtend a list first n b c
+stretch_breaks : (a : Area) (list : List Proposed) (first : Pos) (n : ℕ) (b c : BlockContent) → is_world_box a ≡ true → CanExtend a list first n
     → breaks a (list ++ stretch a first n b c) ≡ breaks a list ++ cond (goes_on_behind a list (record { at = first; before = b; after = c })) [] (length list ∷ [])
 stretch_breaks a list first zero b c box can = absurd (omega (arith, can.some))
 stretch_breaks a list first (suc n) b c box can =
@@ -106,13 +102,13 @@ run_behind a start (r ∷ runs) run each is =
     (each.0, run_behind a (start + r.length) runs run each.1 (subst (λ (s : ℕ). IsRun a s run) e is))
 
 pub begun : (a : Area) (runs : List Run) (count : ℕ) (first : Pos) (n : ℕ) (b c : BlockContent) → is_world_box a ≡ true → AreKept a runs count
-    → CanExtend a (changes_of a runs) first n b c → goes_on_behind a (changes_of a runs) (record { at = first; before = b; after = c }) ≡ false
+    → CanExtend a (changes_of a runs) first n → goes_on_behind a (changes_of a runs) (record { at = first; before = b; after = c }) ≡ false
     → IsExtended a runs count first n b c (runs ++ record { first = first; start = count; length = n; before = b; after = c } ∷ [])
 begun a runs count first n b c box kept can apart =
     let run : Run = record { first = first; start = count; length = n; before = b; after = c } in
     let list = changes_of a runs in
     let held = held_last a 0 (positions list) first can.rising in
-    let more = longer_list a list first n b c box can kept.changing in
+    let more = longer_list a list first n b c box can in
     let whole : changes_of a (runs ++ run ∷ []) ≡ list ++ stretch a first n b c =
     flat_map-append (run_changes a) runs (run ∷ []) ∙ ap (λ (xs : List Proposed). list ++ xs) (append-nil (stretch a first n b c)) in
     let is_run : IsRun a (0 + length list) run = record { start_is = omega (arith, kept.count_is); some = can.some; held = held; fits = can.fits } in
@@ -124,7 +120,6 @@ begun a runs count first n b c box kept can apart =
         each = run_behind a 0 runs run kept.each is_run;
         count_is = rw whole (omega (arith, more.length_is, kept.count_is));
         rising = rw whole more.rising;
-        changing = rw whole more.changing;
         starts = rw whole starts;
       };
       list = whole;
@@ -138,10 +133,10 @@ record IsOneStretch (a : Area) (run : Run) (first : Pos) (n : ℕ) (b c : BlockC
 
 -- what goes on behind the cells of a run is the next cell, with the run's contents
 pub goes_on-run : (a : Area) (start : ℕ) (run : Run) (d : Proposed) → is_world_box a ≡ true → IsRun a start run
-    → goes_on_behind a (run_changes a run) d ≡ (follows a run d.at && (same_content run.before d.before && same_content run.after d.after))
+    → goes_on_behind a (run_changes a run) d ≡ (follows a run.first run.length d.at && (same_content run.before d.before && same_content run.after d.after))
 goes_on-run a start run d box is = by run.length refl
   where
-    by : (len : ℕ) → run.length ≡ len → goes_on_behind a (run_changes a run) d ≡ (follows a run d.at && (same_content run.before d.before && same_content run.after d.after))
+    by : (len : ℕ) → run.length ≡ len → goes_on_behind a (run_changes a run) d ≡ (follows a run.first run.length d.at && (same_content run.before d.before && same_content run.after d.after))
     by zero e = absurd (omega (arith, is.some, e))
     by (suc m) e =
         let part = chunk_part a run.first in
@@ -162,7 +157,7 @@ one_stretch : (a : Area) (start : ℕ) (run : Run) (first : Pos) (n : ℕ) (b c 
 one_stretch a start run first n b c box is fits on =
     let d : Proposed = record { at = first; before = b; after = c } in
     let seen = sym (goes_on-run a start run d box is) ∙ on in
-    let parts = and_both (follows a run first) (same_content run.before b && same_content run.after c) seen in
+    let parts = and_both (follows a run.first run.length first) (same_content run.before b && same_content run.after c) seen in
     let where_is = and_both (holds (chunk_part a run.first) first) _ parts.0 in
     let contents = and_both (same_content run.before b) (same_content run.after c) parts.1 in
     let place : index_of (chunk_part a run.first) first ≡ place_in_chunk a run.first + run.length = eqb-true _ _ where_is.1 in
@@ -238,11 +233,11 @@ last_longer a start (run ∷ next ∷ runs) first n b c box each fits on =
     }
 
 pub lengthened : (a : Area) (runs : List Run) (count : ℕ) (first : Pos) (n : ℕ) (b c : BlockContent) → is_world_box a ≡ true → AreKept a runs count
-    → CanExtend a (changes_of a runs) first n b c → goes_on_behind a (changes_of a runs) (record { at = first; before = b; after = c }) ≡ true
+    → CanExtend a (changes_of a runs) first n → goes_on_behind a (changes_of a runs) (record { at = first; before = b; after = c }) ≡ true
     → IsExtended a runs count first n b c (with_last_longer runs n)
 lengthened a runs count first n b c box kept can on =
     let list = changes_of a runs in
-    let more = longer_list a list first n b c box can kept.changing in
+    let more = longer_list a list first n b c box can in
     let last = last_longer a 0 runs first n b c box kept.each can.fits on in
     let no_break : breaks a (list ++ stretch a first n b c) ≡ breaks a list =
     stretch_breaks a list first n b c box can ∙ ap (λ (t : Bool). breaks a list ++ cond t [] (length list ∷ [])) on ∙ append-nil (breaks a list) in
@@ -251,7 +246,6 @@ lengthened a runs count first n b c box kept can on =
         each = last.each;
         count_is = rw last.whole (omega (arith, more.length_is, kept.count_is));
         rising = rw last.whole more.rising;
-        changing = rw last.whole more.changing;
         starts = rw last.whole (last.starts ∙ kept.starts ∙ sym no_break);
       };
       list = last.whole;
@@ -262,7 +256,7 @@ lengthened a runs count first n b c box kept can on =
 pub record IsLast (a : Area) (runs : List Run) (run : Run) : Type 0 where
   pub start : ℕ
   pub is : IsRun a start run
-  pub behind : (d : Proposed) → goes_on_behind a (changes_of a runs) d ≡ (follows a run d.at && (same_content run.before d.before && same_content run.after d.after))
+  pub behind : (d : Proposed) → goes_on_behind a (changes_of a runs) d ≡ (follows a run.first run.length d.at && (same_content run.before d.before && same_content run.after d.after))
 
 pub last_run : (a : Area) (start : ℕ) (runs : List Run) (k : ℕ) (run : Run) → is_world_box a ≡ true → AreRunsFrom a start runs → k + 1 ≡ length runs → slice_get runs k ≡ Some run → IsLast a runs run
 last_run a start [] k run box each e there = absurd (omega (arith, e))
@@ -293,16 +287,15 @@ last_fits a start (run ∷ runs) zero more each small =
 last_fits a start (run ∷ runs) (suc k) more each small = last_fits a (start + run.length) runs k more each.1 (omega (arith, small, length-append (run_changes a run) (changes_of a runs)))
 
 -- where a stretch may stand, from what is seen of the changes
-pub can_extend : (a : Area) (runs : List Run) (seen : ChangeList) (first : Pos) (n : ℕ) (b c : BlockContent) → record { area = a; list = changes_of a runs } ≡ seen
-    → rises seen.area (positions seen.list ++ first ∷ []) ≡ true → place_in_chunk seen.area first + n ≤ volume (chunk_part seen.area first) → (n ≡ 0 → ⊥) → same_content b c ≡ false
-    → CanExtend a (changes_of a runs) first n b c
-can_extend a runs seen first n b c is rising fits some differs =
+pub can_extend : (a : Area) (runs : List Run) (seen : ChangeList) (first : Pos) (n : ℕ) → record { area = a; list = changes_of a runs } ≡ seen
+    → rises seen.area (positions seen.list ++ first ∷ []) ≡ true → place_in_chunk seen.area first + n ≤ volume (chunk_part seen.area first) → (n ≡ 0 → ⊥)
+    → CanExtend a (changes_of a runs) first n
+can_extend a runs seen first n is rising fits some =
     let back = sym is in
     record {
       rising = subst (λ (s : ChangeList). rises s.area (positions s.list ++ first ∷ []) ≡ true) back rising;
       fits = subst (λ (s : ChangeList). place_in_chunk s.area first + n ≤ volume (chunk_part s.area first)) back fits;
       some = omega (arith, some);
-      differs = differs;
     }
 
 -- what is seen of the changes with a stretch more
@@ -312,21 +305,29 @@ seen_longer a runs count seen first n b c longer is differs more =
     let kept : changes_of a longer ≡ changes_of a runs ++ kept_stretch a first n b c = rw differs more.list in
     kept ∙ ap (λ (s : ChangeList). s.list ++ kept_stretch s.area first n b c) is
 
+-- changes go on being changes with unlike contents behind them
+pub changes_kept : (a : Area) (runs : List Run) (count : ℕ) (first : Pos) (n : ℕ) (b c : BlockContent) (longer : List Run) → AreChangesKept a runs count → same_content b c ≡ false
+    → IsExtended a runs count first n b c longer → AreChangesKept a longer (count + n)
+changes_kept a runs count first n b c longer kept differs more = record {
+  kept = more.kept;
+  changing = rw (more.list, list_all-append is_change (changes_of a runs) (stretch a first n b c)) (both_true kept.changing (cells_change (chunk_part a first) b c (place_in_chunk a first) n differs));
+}
+
 -- the same from what is read and seen: a longer last run, or a run more
 pub grown : (a : Area) (runs read : List Run) (count : ℕ) (seen : ChangeList) (first : Pos) (n : ℕ) (b c : BlockContent) → is_world_box a ≡ true → AreKept a runs count
     → record { area = a; list = changes_of a runs } ≡ seen → rises seen.area (positions seen.list ++ first ∷ []) ≡ true → place_in_chunk seen.area first + n ≤ volume (chunk_part seen.area first)
-    → (n ≡ 0 → ⊥) → same_content b c ≡ false → read ≡ runs → goes_on_behind a (changes_of a read) (record { at = first; before = b; after = c }) ≡ true
+    → (n ≡ 0 → ⊥) → read ≡ runs → goes_on_behind a (changes_of a read) (record { at = first; before = b; after = c }) ≡ true
     → IsExtended a runs count first n b c (with_last_longer runs n)
-grown a runs read count seen first n b c box kept is rising fits some differs same on =
-    lengthened a runs count first n b c box kept (can_extend a runs seen first n b c is rising fits some differs)
+grown a runs read count seen first n b c box kept is rising fits some same on =
+    lengthened a runs count first n b c box kept (can_extend a runs seen first n is rising fits some)
     (subst (λ (rs : List Run). goes_on_behind a (changes_of a rs) (record { at = first; before = b; after = c }) ≡ true) same on)
 
 pub started : (a : Area) (runs read : List Run) (count : ℕ) (seen : ChangeList) (first : Pos) (n : ℕ) (b c : BlockContent) → is_world_box a ≡ true → AreKept a runs count
     → record { area = a; list = changes_of a runs } ≡ seen → rises seen.area (positions seen.list ++ first ∷ []) ≡ true → place_in_chunk seen.area first + n ≤ volume (chunk_part seen.area first)
-    → (n ≡ 0 → ⊥) → same_content b c ≡ false → read ≡ runs → goes_on_behind a (changes_of a read) (record { at = first; before = b; after = c }) ≡ false
+    → (n ≡ 0 → ⊥) → read ≡ runs → goes_on_behind a (changes_of a read) (record { at = first; before = b; after = c }) ≡ false
     → IsExtended a runs count first n b c (runs ++ record { first = first; start = count; length = n; before = b; after = c } ∷ [])
-started a runs read count seen first n b c box kept is rising fits some differs same apart =
-    begun a runs count first n b c box kept (can_extend a runs seen first n b c is rising fits some differs)
+started a runs read count seen first n b c box kept is rising fits some same apart =
+    begun a runs count first n b c box kept (can_extend a runs seen first n is rising fits some)
     (subst (λ (rs : List Run). goes_on_behind a (changes_of a rs) (record { at = first; before = b; after = c }) ≡ false) same apart)
 
 -- a stretch of one cell is that change
@@ -338,3 +339,61 @@ one_cell_fits a p held = let below = held_below (chunk_part a p) p (part_held a 
 
 pub rising_held : (a : Area) (ps : List Pos) (p : Pos) → rises a (ps ++ p ∷ []) ≡ true → holds a p ≡ true
 rising_held a ps p h = held_last a 0 ps p h
+
+-- where the first of two tests fails, both together do
+pub first_fails : (x r t : Bool) → t ≡ (x && r) → x ≡ false → false ≡ t
+first_fails true r t e p = absurd cc
+first_fails false r t e p = sym e
+
+-- the cells of a stretch rise up to a later cell of their chunk
+cells_up_to : (a : Area) (p q : Pos) (b c : BlockContent) (k n : ℕ) → is_world_box a ≡ true → holds a p ≡ true → holds (chunk_part a p) q ≡ true → k + suc n ≤ volume (chunk_part a p) → k + suc n ≤ index_of (chunk_part a p) q
+    → rises_from a (index_of a (position_of (chunk_part a p) k)) (positions (cells (chunk_part a p) b c k (suc n)) ++ q ∷ []) ≡ true
+cells_up_to a p q b c k zero box held held_q fits above =
+    let part = chunk_part a p in
+    let here = block_of_part a p k box held (omega (arith, fits)) in
+    let order : index_of part (position_of part k) < index_of part q = rw here.place (omega (arith, above)) in
+    let less : index_of a (position_of part k) < index_of a q = part_order a p (position_of part k) q held here.held held_q order in
+    rising_from_first a (index_of a (position_of part k)) (position_of part k) (q ∷ []) (record {
+      held = in_part a p (position_of part k) here.held;
+      from = omega arith;
+      rest = rising_from_first a (index_of a (position_of part k) + 1) q [] (record { held = in_part a p q held_q; from = omega (arith, less); rest = refl });
+    })
+cells_up_to a p q b c k (suc n) box held held_q fits above =
+    let part = chunk_part a p in
+    let here = block_of_part a p k box held (omega (arith, fits)) in
+    let next = block_of_part a p (k + 1) box held (omega (arith, fits)) in
+    let order : index_of part (position_of part k) < index_of part (position_of part (k + 1)) = rw (here.place, next.place) (omega arith) in
+    let less : index_of a (position_of part k) < index_of a (position_of part (k + 1)) = part_order a p (position_of part k) (position_of part (k + 1)) held here.held next.held order in
+    let rest = cells_up_to a p q b c (k + 1) n box held held_q (omega (arith, fits)) (omega (arith, above)) in
+    rising_from_first a (index_of a (position_of part k)) (position_of part k) (positions (cells part b c (k + 1) (suc n)) ++ q ∷ []) (record {
+      held = in_part a p (position_of part k) here.held;
+      from = omega arith;
+      rest = rises_lower a (index_of a (position_of part k) + 1) (index_of a (position_of part (k + 1))) (positions (cells part b c (k + 1) (suc n)) ++ q ∷ []) (omega (arith, less)) rest;
+    })
+
+-- behind a stretch may come each later cell of its chunk
+stretch_up_to : (a : Area) (list : List Proposed) (first q : Pos) (n : ℕ) (b c : BlockContent) → is_world_box a ≡ true → rises a (positions list ++ first ∷ []) ≡ true
+    → place_in_chunk a first + suc n ≤ volume (chunk_part a first) → holds (chunk_part a first) q ≡ true → place_in_chunk a first + suc n ≤ index_of (chunk_part a first) q
+    → rises a (positions (list ++ stretch a first (suc n) b c) ++ q ∷ []) ≡ true
+stretch_up_to a list first q n b c box rising fits held_q above =
+    let held = held_last a 0 (positions list) first rising in
+    let part = chunk_part a first in
+    let place = place_in_chunk a first in
+    let is_first : position_of part place ≡ first = position_at_index part first (part_held a first held) in
+    let rest = positions (cells part b c (place + 1) n) ++ q ∷ [] in
+    let up_to = cells_up_to a first q b c place n box held held_q fits above in
+    let from_first : rises_from a (index_of a first) (first ∷ rest) ≡ true = subst (λ (p : Pos). rises_from a (index_of a p) (p ∷ positions (cells part b c (place + 1) n) ++ q ∷ []) ≡ true) is_first up_to in
+    let joined = rises_join a 0 (positions list) rest first rising from_first in
+    let joined_cells : rises_from a 0 (positions list ++ (positions (cells part b c place (suc n)) ++ q ∷ [])) ≡ true =
+    subst (λ (p : Pos). rises_from a 0 (positions list ++ p ∷ (positions (cells part b c (place + 1) n) ++ q ∷ [])) ≡ true) (sym is_first) joined in
+    rw (map-append (λ (d : Proposed). d.at) list (cells part b c place (suc n)), append_assoc (positions list) (positions (cells part b c place (suc n))) (q ∷ [])) joined_cells
+
+-- the same where equal contents are left out
+pub follows_stretch : (a : Area) (list : List Proposed) (first q : Pos) (n : ℕ) (b c : BlockContent) → is_world_box a ≡ true → rises a (positions list ++ first ∷ []) ≡ true → rises a (positions list ++ q ∷ []) ≡ true
+    → place_in_chunk a first + suc n ≤ volume (chunk_part a first) → holds (chunk_part a first) q ≡ true → place_in_chunk a first + suc n ≤ index_of (chunk_part a first) q
+    → rises a (positions (list ++ kept_stretch a first (suc n) b c) ++ q ∷ []) ≡ true
+follows_stretch a list first q n b c box rising behind fits held_q above = by (same_content b c)
+  where
+    by : (t : Bool) → rises a (positions (list ++ cond t [] (stretch a first (suc n) b c)) ++ q ∷ []) ≡ true
+    by true = rw (append-nil list) behind
+    by false = stretch_up_to a list first q n b c box rising fits held_q above

@@ -2,4 +2,7 @@ pub mod Chunk
 pub mod Changes
 pub mod Runs
 pub mod Kept
+pub mod Cells
+pub mod Sorted
 pub mod Part
+pub mod Forms

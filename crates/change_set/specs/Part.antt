@@ -1,10 +1,8 @@
 -- The captured cells of a chunk.
-use Rattle.std.specs.Prelude.{ℕ, ◌^◌, ◌<◌, List, length}
-use Rattle.std.specs.Ordering.{int_cmp, ordering_then, is_lt}
-use Rattle.std.specs.declared.cmp.Ordering.{Ordering}
-use Rattle.std.specs.List.Sorted.{IsSortedBy}
+use Rattle.std.specs.Prelude.{ℕ, List, ◌++◌}
 use Rattle.edit_terms.specs.declared.pos.Pos.{Pos}
 use Rattle.edit_terms.specs.declared.clip.Source.{Source}
+use Rattle.edit_terms.specs.Area.{Area}
 use Rattle.edit_terms.specs.World.{BlockContent}
 
 -- What contracts see of a part: which command captured it, in which chunk, and its cells in order.
@@ -13,15 +11,11 @@ pub record PartCells : Type 0 where
   pub chunk : ℕ
   pub cells : List (Pos × BlockContent)
 
--- the order of positions: by y, then by z, then by x. In each box it is the order of their places.
-abbrev pub position_cmp : Pos → Pos → Ordering
-position_cmp p q = ordering_then (ordering_then (int_cmp p.y q.y) (int_cmp p.z q.z)) (int_cmp p.x q.x)
+-- What contracts see of a part under construction: the box of the world, and the part so far.
+pub record PartSoFar : Type 0 where
+  pub area : Area
+  pub part : PartCells
 
--- no cell comes before the one in front of it
-abbrev pub AreInOrder : List (Pos × BlockContent) → Type 0
-AreInOrder cells = IsSortedBy (λ c d. is_lt (position_cmp c.0 d.0)) cells
-
--- what holds of a part's cells
-pub record IsPart (cells : List (Pos × BlockContent)) : Type 0 where
-  pub few : length cells < 2 ^ 32
-  pub in_order : AreInOrder cells
+-- the part with more cells behind its own
+abbrev pub with_cells : PartCells → List (Pos × BlockContent) → PartCells
+with_cells part more = record part { cells = part.cells ++ more }

@@ -20,17 +20,21 @@ abbrev pub AreRunsFrom : Area → ℕ → List Run → Type 0
 AreRunsFrom a start [] = Unit {0}
 AreRunsFrom a start (run ∷ runs) = IsRun a start run × AreRunsFrom a (start + run.length) runs
 
--- What holds of the runs and of how many changes they are.
+-- What holds of runs and of how many cells they have.
 pub record AreKept (a : Area) (runs : List Run) (count : ℕ) : Type 0 where
   pub each : AreRunsFrom a 0 runs
   pub count_is : count ≡ length (changes_of a runs)
   pub rising : rises a (positions (changes_of a runs)) ≡ true
-  pub changing : list_all is_change (changes_of a runs) ≡ true
   pub starts : map (λ run. run.start) runs ≡ breaks a (changes_of a runs)
 
--- the position is the next cell behind a run
-abbrev pub follows : Area → Run → Pos → Bool
-follows a run p = holds (chunk_part a run.first) p && (index_of (chunk_part a run.first) p == place_in_chunk a run.first + run.length)
+-- What holds of the runs that changes are kept in, and of how many changes they are.
+pub record AreChangesKept (a : Area) (runs : List Run) (count : ℕ) : Type 0 where
+  pub kept : AreKept a runs count
+  pub changing : list_all is_change (changes_of a runs) ≡ true
+
+-- the position is the next cell behind so many cells of a chunk's part
+abbrev pub follows : Area → Pos → ℕ → Pos → Bool
+follows a first count p = holds (chunk_part a first) p && (index_of (chunk_part a first) p == place_in_chunk a first + count)
 
 -- the runs with so many more cells in the last one
 abbrev pub with_last_longer : List Run → ℕ → List Run

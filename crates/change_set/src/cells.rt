@@ -34,7 +34,7 @@ impl CellList for Changes {
 
     fn at(&self, i: u32) -> Pos {
         let run = self.run_of(i);
-        position_in_run(self.area(), run, i)
+        position_in_run(self.area(), &run.first, i - run.start)
     }
 
     fn state(&self, i: u32) -> &BlockState {
@@ -68,7 +68,7 @@ impl CellList for Befores<'_> {
 
     fn at(&self, i: u32) -> Pos {
         let run = self.changes.run_of(i);
-        position_in_run(self.changes.area(), run, i)
+        position_in_run(self.changes.area(), &run.first, i - run.start)
     }
 
     fn state(&self, i: u32) -> &BlockState {

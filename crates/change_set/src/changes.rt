@@ -27,13 +27,13 @@ pub struct Changes {
 
 impl Model for Changes {
     ghost use Rattle.change_set.specs.Changes.{ChangeList, changes_of};
-    ghost use Rattle.change_set.specs.Runs.{AreKept};
+    ghost use Rattle.change_set.specs.Runs.{AreChangesKept};
 
     ghost Value = { ChangeList };
 
     ghost view = { λ c. record { area = c.area; list = changes_of c.area c.runs.items } };
 
-    ghost invariant = { λ c. AreKept c.area c.runs.items c.count };
+    ghost invariant = { λ c. AreChangesKept c.area c.runs.items c.count };
 }
 
 impl Changes {

@@ -9,18 +9,18 @@ use crate::chunk::chunk_part;
 use crate::run::Run;
 use edit_terms::{Content, Pos, WorldBox};
 
-/// Whether the position is the next cell behind the run.
-pub(crate) fn follows(area: &WorldBox, run: &Run, p: &Pos) -> bool
-    requires held { holds area.now run.now.first ≡ true }
-    requires fits { place_in_chunk area.now run.now.first + run.now.length ≤ volume (chunk_part area.now run.now.first) }
-    ensures { result ≡ follows area.now run.now p.now }
+/// Whether the position is the next cell behind so many cells of a chunk, from the first one on.
+pub(crate) fn follows(area: &WorldBox, first: &Pos, length: u32, p: &Pos) -> bool
+    requires held { holds area.now first.now ≡ true }
+    requires fits { place_in_chunk area.now first.now + length ≤ volume (chunk_part area.now first.now) }
+    ensures { result ≡ follows area.now first.now length p.now }
 {
-    let part = chunk_part(area, &run.first);
-    let Some(first) = part.index_of(run.first) else {
+    let part = chunk_part(area, first);
+    let Some(from) = part.index_of(*first) else {
         return false;
     };
     match part.index_of(*p) {
-        Some(place) => place == first + run.length,
+        Some(place) => place == from + length,
         None => false,
     }
 }
@@ -40,7 +40,7 @@ pub(crate) fn goes_on(
     let Some(run) = runs.last() else {
         return false;
     };
-    if !follows(area, run, at) {
+    if !follows(area, &run.first, run.length, at) {
         return false;
     }
     if run.before != *before {

@@ -7,15 +7,20 @@
 
 mod between;
 mod builder;
+mod cell_run;
+mod cell_runs;
 mod cells;
 mod changes;
 mod chunk;
 mod grow;
 mod kept;
 mod part;
+mod part_builder;
 mod proposed;
 mod read;
 mod run;
+mod search;
+mod sorted_cells;
 
 pub use builder::ChangeBuilder;
 pub use cells::Befores;
@@ -23,6 +28,7 @@ pub use changes::Changes;
 pub use kept::Kept;
 pub use memory::Memory;
 pub use part::Part;
+pub use part_builder::PartBuilder;
 pub use proposed::Proposed;
 pub use run::Run;
 

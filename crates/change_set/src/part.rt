@@ -1,30 +1,42 @@
 //! The captured cells of a chunk.
-ghost use Rattle.std.specs.Prelude.{◌≡◌, ◌≢◌, ◌^◌, ◌<◌, ℕ, length, Some, slice_get, MatchOption, IsPermutation};
+ghost use Rattle.std.specs.Prelude.{◌≡◌, ◌≢◌, ◌^◌, ◌<◌, ℕ, length, Some, MatchOption, IsPermutation};
 ghost use Rattle.edit_terms.specs.CellList.{position_in};
-ghost use Rattle.change_set.specs.Part.{AreInOrder};
+ghost use Rattle.change_set.specs.Sorted.{AreInOrder};
 
-use crate::read::{entity_of, state_of};
+use crate::cell_runs::CellRuns;
+use crate::sorted_cells::SortedCells;
 use edit_terms::{BlockState, CellList, Content, Entity, Pos, Source};
 use std::marker::Model;
 use std::sync::Arc;
 
 /// The cells that a command captured in a chunk: positions with their contents, in index order.
+///
+/// Cells that come one by one are sorted in place (`from_cells`); those that a `PartBuilder` was given lie in
+/// runs, so that their room grows with the breaks of the list and not with its length. Contracts don't tell
+/// the two forms apart.
 #[derive(Debug, Drop)]
 pub struct Part {
     source: Source,
     chunk: u32,
-    cells: Vec<(Pos, Content)>,
+    form: Form,
+}
+
+/// How the cells of a part are kept.
+#[derive(Debug, Drop)]
+enum Form {
+    /// One by one.
+    Sorted(SortedCells),
+    /// As runs of one content.
+    Runs(CellRuns),
 }
 
 impl Model for Part {
-    ghost use Rattle.std.specs.Prelude.{◌^◌, ◌<◌, length};
-    ghost use Rattle.change_set.specs.Part.{PartCells, IsPart};
+    ghost use Rattle.change_set.specs.Part.{PartCells};
+    ghost use Rattle.change_set.specs.Forms.{cells_in};
 
     ghost Value = { PartCells };
 
-    ghost view = { λ p. record { source = p.source; chunk = p.chunk; cells = p.cells.items } };
-
-    ghost invariant = { λ p. IsPart p.cells.items };
+    ghost view = { λ p. record { source = p.source; chunk = p.chunk; cells = cells_in p.form } };
 }
 
 impl Part {
@@ -36,12 +48,21 @@ impl Part {
         ensures permutation { IsPermutation cells.items result.cells }
         ensures in_order { AreInOrder result.cells }
     {
-        let mut cells = cells;
-        cells.sort_unstable_by_key(|cell| order_key(&cell.0));
         Part {
             source,
             chunk,
-            cells,
+            form: Form::Sorted(SortedCells::new(cells)),
+        }
+    }
+
+    /// The part of these runs.
+    pub(crate) fn from_runs(source: Source, chunk: u32, runs: CellRuns) -> Part
+        ensures { result ≡ record { source = source; chunk = chunk; cells = runs.cells } }
+    {
+        Part {
+            source,
+            chunk,
+            form: Form::Runs(runs),
         }
     }
 
@@ -59,52 +80,54 @@ impl Part {
         self.chunk
     }
 
-    /// The place of a cell of this position. None exactly where no cell has it.
+    /// The place of a cell of this position, by a search. None exactly where no cell has it.
     pub fn find(&self, p: &Pos) -> Option<u32>
         ensures { MatchOption result
             ((i : ℕ) → position_in self.now.cells i ≢ Some p.now)
             (λ i. position_in self.now.cells i ≡ Some p.now) }
     {
-        let place = self
-            .cells
-            .binary_search_by_key(&order_key(p), |cell| order_key(&cell.0));
-        match place {
-            Ok(place) => Some(place as u32),
-            Err(_gap) => None,
+        match &self.form {
+            Form::Sorted(cells) => cells.find(p),
+            Form::Runs(runs) => runs.find(p),
         }
     }
-}
-
-/// What cells are ordered by: y, then z, then x.
-fn order_key(p: &Pos) -> (i32, i32, i32)
-    ensures { result ≡ (p.now.y, p.now.z, p.now.x) }
-{
-    (p.y, p.z, p.x)
 }
 
 impl CellList for Part {
     ghost cells = { λ p. p.cells };
 
     fn len(&self) -> u32 {
-        self.cells.len() as u32
-    }
-
-    fn at(&self, i: u32) -> Pos {
-        self.cells[i as usize].0
-    }
-
-    fn state(&self, i: u32) -> &BlockState {
-        state_of(&self.cells[i as usize].1)
-    }
-
-    fn entity(&self, i: u32) -> Option<&Arc<Entity>> {
-        match self.cells.get(i as usize) {
-            None => None,
-            Some(cell) => entity_of(&cell.1),
+        match &self.form {
+            Form::Sorted(cells) => cells.len(),
+            Form::Runs(runs) => runs.len(),
         }
     }
 
-    fn reach(&self, _i: u32) -> u32 {
-        1
+    fn at(&self, i: u32) -> Pos {
+        match &self.form {
+            Form::Sorted(cells) => cells.at(i),
+            Form::Runs(runs) => runs.at(i),
+        }
+    }
+
+    fn state(&self, i: u32) -> &BlockState {
+        match &self.form {
+            Form::Sorted(cells) => cells.state(i),
+            Form::Runs(runs) => runs.state(i),
+        }
+    }
+
+    fn entity(&self, i: u32) -> Option<&Arc<Entity>> {
+        match &self.form {
+            Form::Sorted(cells) => cells.entity(i),
+            Form::Runs(runs) => runs.entity(i),
+        }
+    }
+
+    fn reach(&self, i: u32) -> u32 {
+        match &self.form {
+            Form::Sorted(cells) => cells.reach(i),
+            Form::Runs(runs) => runs.reach(i),
+        }
     }
 }

@@ -1,4 +1,4 @@
-//! Reading a change by its place.
+//! Reading a change or a cell by its place.
 ghost use Rattle.std.specs.Prelude.{◌≡◌, true, ◌+◌, ◌-◌, ◌<◌, ◌≤◌, length, Some, slice_get, option_map};
 ghost use Rattle.change_set.specs.declared.run.Run.{Run};
 ghost use Rattle.change_set.specs.Changes.{changes_of};
@@ -13,50 +13,27 @@ use crate::run::Run;
 use edit_terms::{BlockState, Content, Entity, Pos, WorldBox};
 use std::sync::Arc;
 
-/// The place of the run that starts last at or before a place of the list of changes.
-fn last_start(runs: &[Run], i: u32) -> usize
-    requires some { 0 < length runs.now }
-    requires first { (run : Run) → slice_get runs.now 0 ≡ Some run → run.start ≤ i }
-    ensures below { result < length runs.now }
-    ensures from { (run : Run) → slice_get runs.now result ≡ Some run → run.start ≤ i }
-    ensures to { (run : Run) → slice_get runs.now (result + 1) ≡ Some run → i < run.start }
-{
-    let mut low = 0;
-    let mut high = runs.len();
-    while high - low > 1 {
-        let middle = low + (high - low) / 2;
-        if runs[middle].start <= i {
-            low = middle;
-        } else {
-            high = middle;
-        }
-    }
-    low
-}
-
 /// The run that has the change at a place of the list.
 pub(crate) fn run_at<'a>(area: &WorldBox, runs: &'a [Run], i: u32) -> &'a Run
     requires each { AreRunsFrom area.now 0 runs.now }
     requires within { i < length (changes_of area.now runs.now) }
     ensures { IsRunAt area.now (changes_of area.now runs.now) i result.now }
 {
-    let place = last_start(runs, i);
-    &runs[place]
+    let behind = runs.partition_point(|run| run.start <= i);
+    &runs[behind - 1]
 }
 
-/// The position of the change at a place of the list that this run has.
-pub(crate) fn position_in_run(area: &WorldBox, run: &Run, i: u32) -> Pos
-    requires held { holds area.now run.now.first ≡ true }
-    requires fits { place_in_chunk area.now run.now.first + run.now.length ≤ volume (chunk_part area.now run.now.first) }
-    requires from { run.now.start ≤ i }
-    requires to { i < run.now.start + run.now.length }
-    ensures { result ≡ position_of (chunk_part area.now run.now.first) (place_in_chunk area.now run.now.first + (i - run.now.start)) }
+/// The position of a cell of a stretch of a chunk's cells, by the first one and how far it is behind that.
+pub(crate) fn position_in_run(area: &WorldBox, first: &Pos, further: u32) -> Pos
+    requires held { holds area.now first.now ≡ true }
+    requires within { place_in_chunk area.now first.now + further < volume (chunk_part area.now first.now) }
+    ensures { result ≡ position_of (chunk_part area.now first.now) (place_in_chunk area.now first.now + further) }
 {
-    let part = chunk_part(area, &run.first);
-    let Some(place) = part.index_of(run.first) else {
+    let part = chunk_part(area, first);
+    let Some(place) = part.index_of(*first) else {
         unreachable!();
     };
-    match part.position(place + (i - run.start)) {
+    match part.position(place + further) {
         Some(position) => position,
         None => unreachable!(),
     }

@@ -6,7 +6,7 @@ use Rattle.change_set.proofs.grow.follows.Goals as goal
 
 pub returns-in_default : goal.returns-in_default
 returns-in_default c =
-    let held : holds (chunk_part c.args.area.now c.args.run.now.first) c.args.run.now.first ≡ true = part_held c.args.area.now c.args.run.now.first c.requires.held in
+    let held : holds (chunk_part c.args.area.now c.args.first.now) c.args.first.now ≡ true = part_held c.args.area.now c.args.first.now c.requires.held in
     let out = c.in_default.ensures in
-    let outside : holds c.chunk_part-part.result c.args.run.now.first ≡ false = out.index in
+    let outside : holds c.chunk_part-part.result c.args.first.now ≡ false = out.index in
     absurd (cc (held, outside))

@@ -4,7 +4,7 @@ use Rattle.edit_terms.specs.Area.{Area, is_world_box}
 use Rattle.edit_terms.specs.Same.{same_content}
 use Rattle.change_set.specs.declared.run.Run.{Run}
 use Rattle.change_set.specs.Runs.{AreRunsFrom, follows}
-use Rattle.change_set.proofs.RunLemmas.{IsLast, last_run}
+use Rattle.change_set.proofs.RunLemmas.{IsLast, last_run, first_fails}
 use Rattle.change_set.proofs.grow.goes_on.Goals as goal
 
 -- what is known of a run that is read as the last one
@@ -18,10 +18,6 @@ all_three : (x y z t : Bool) → t ≡ (x && (y && z)) → x ≡ true → y ≡ 
 all_three true true z t e p q = sym e
 all_three false y z t e p q = absurd cc
 all_three true false z t e p q = absurd cc
-
-first_fails : (x r t : Bool) → t ≡ (x && r) → x ≡ false → false ≡ t
-first_fails true r t e p = absurd cc
-first_fails false r t e p = sym e
 
 second_fails : (x y z t : Bool) → t ≡ (x && (y && z)) → y ≡ false → false ≡ t
 second_fails true true z t e p = absurd cc
@@ -46,18 +42,18 @@ pub returns-then-not-follows : goal.returns-then-not-follows
 returns-then-not-follows c =
     let e = c.in-Some.ensures in
     let last = last_read c.args.area.now c.args.runs.now c.in-Some.run'.now c.well_formed-2.ensures c.requires e.value in
-    first_fails (follows c.args.area.now c.in-Some.run'.now c.args.at.now) _ _ (last.behind (record { at = c.args.at.now; before = c.args.before.now; after = c.args.after.now })) (sym c.follows.ensures ∙ c.if-not-follows.true)
+    first_fails (follows c.args.area.now c.in-Some.run'.now.first c.in-Some.run'.now.length c.args.at.now) _ _ (last.behind (record { at = c.args.at.now; before = c.args.before.now; after = c.args.after.now })) (sym c.follows.ensures ∙ c.if-not-follows.true)
 
 pub returns-then-ne : goal.returns-then-ne
 returns-then-ne c =
     let e = c.in-Some.ensures in
     let last = last_read c.args.area.now c.args.runs.now c.in-Some.run'.now c.well_formed-2.ensures c.requires e.value in
-    second_fails (follows c.args.area.now c.in-Some.run'.now c.args.at.now) (same_content c.in-Some.run'.now.before c.args.before.now) _ _
+    second_fails (follows c.args.area.now c.in-Some.run'.now.first c.in-Some.run'.now.length c.args.at.now) (same_content c.in-Some.run'.now.before c.args.before.now) _ _
     (last.behind (record { at = c.args.at.now; before = c.args.before.now; after = c.args.after.now })) (not_true _ (sym c.ne.ensures ∙ c.if-ne.true))
 
 pub returns : goal.returns
 returns c =
     let e = c.in-Some.ensures in
     let last = last_read c.args.area.now c.args.runs.now c.in-Some.run'.now c.well_formed-2.ensures c.requires e.value in
-    c.eq.ensures ∙ all_three (follows c.args.area.now c.in-Some.run'.now c.args.at.now) (same_content c.in-Some.run'.now.before c.args.before.now) _ _
+    c.eq.ensures ∙ all_three (follows c.args.area.now c.in-Some.run'.now.first c.in-Some.run'.now.length c.args.at.now) (same_content c.in-Some.run'.now.before c.args.before.now) _ _
     (last.behind (record { at = c.args.at.now; before = c.args.before.now; after = c.args.after.now })) (sym c.follows.ensures ∙ c.if-not-follows.false) (not_false _ (sym c.ne.ensures ∙ c.if-ne.false))

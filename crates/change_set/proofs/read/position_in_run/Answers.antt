@@ -6,8 +6,8 @@ use Rattle.change_set.proofs.read.position_in_run.Goals as goal
 
 pub unreachable-requires : goal.unreachable-requires
 unreachable-requires c =
-    let held : holds (chunk_part c.args.area.now c.args.run.now.first) c.args.run.now.first ≡ true = part_held c.args.area.now c.args.run.now.first c.requires.held in
+    let held : holds (chunk_part c.args.area.now c.args.first.now) c.args.first.now ≡ true = part_held c.args.area.now c.args.first.now c.requires.held in
     let out = c.in_default.ensures in
-    let outside : holds c.chunk_part-part.result c.args.run.now.first ≡ false = out.index in
-    let same = ap (λ (part : Area). holds part c.args.run.now.first) c.chunk_part-part.ensures.part in
+    let outside : holds c.chunk_part-part.result c.args.first.now ≡ false = out.index in
+    let same = ap (λ (part : Area). holds part c.args.first.now) c.chunk_part-part.ensures.part in
     cc (held, outside, same)

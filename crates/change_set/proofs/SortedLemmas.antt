@@ -14,7 +14,7 @@ use Rattle.std.proofs.lemmas.Int.{ints}
 use Rattle.edit_terms.specs.declared.pos.Pos.{Pos}
 use Rattle.edit_terms.specs.World.{BlockContent, air_content}
 use Rattle.edit_terms.specs.CellList.{position_in}
-use Rattle.change_set.specs.Part.{position_cmp, AreInOrder}
+use Rattle.change_set.specs.Sorted.{position_cmp, AreInOrder}
 
 -- the key of a position, and the order of keys
 abbrev pub key_of : Pos → ℤ × ℤ × ℤ

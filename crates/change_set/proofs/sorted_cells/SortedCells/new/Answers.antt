@@ -2,8 +2,8 @@ use Rattle.std.proofs.Common.{rules, arith}
 use Rattle.std.proofs.lemmas.List.Sorted.{answers_always, length_permutation}
 use Rattle.edit_terms.specs.declared.pos.Pos.{Pos}
 use Rattle.edit_terms.specs.World.{BlockContent}
-use Rattle.change_set.proofs.PartLemmas.{key_of}
-use Rattle.change_set.proofs.part.Part.from_cells.Goals as goal
+use Rattle.change_set.proofs.SortedLemmas.{key_of}
+use Rattle.change_set.proofs.sorted_cells.SortedCells.new.Goals as goal
 
 pub invariant_of-result : goal.invariant_of-result
 invariant_of-result c =
