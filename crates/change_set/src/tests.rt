@@ -1,5 +1,5 @@
 //! Small worlds of air and stone, and what their changes are kept in.
-use crate::{ChangeBuilder, Changes, Kept, Memory, Part, Proposed};
+use crate::{ChangeBuilder, Changes, Kept, Memory, Part, PartBuilder, Proposed};
 use edit_terms::{
     BlockName, BlockState, CellList, Content, Entity, Name, Pos, Properties, Source, WorldBox,
 };
@@ -161,6 +161,14 @@ fn read<L: CellList>(list: &L, i: u32, state: &BlockState) -> Option<(Pos, bool,
     Some((list.at(i), same, list.entity(i).is_some(), list.reach(i)))
 }
 
+/// A chest with an entity.
+fn chest(alloc: Global) -> Result<Content, Fail> {
+    let mut chest = block(alloc, "minecraft:chest")?;
+    let entity = Entity::new(Vec::from_slice(alloc, b"before")?, Vec::new(alloc));
+    chest.entity = Some(Arc::new(alloc, entity)?);
+    Ok(chest)
+}
+
 /// The changes of two blocks of a row from air to chests.
 fn chests(alloc: Global, air: &Content, chest: &Content) -> Result<Changes, Fail> {
     let area = WorldBox::new(pos(-2, 7, 3), 3, 1, 1).ok_or("a box")?;
@@ -171,9 +179,7 @@ fn chests(alloc: Global, air: &Content, chest: &Content) -> Result<Changes, Fail
 fn lists_of_changes_are_read_by_place(rt: HostRuntime) -> Result<(), Fail> {
     let alloc = rt.alloc();
     let air = block(alloc, "minecraft:air")?;
-    let mut chest = block(alloc, "minecraft:chest")?;
-    let entity = Entity::new(Vec::from_slice(alloc, b"before")?, Vec::new(alloc));
-    chest.entity = Some(Arc::new(alloc, entity)?);
+    let chest = chest(alloc)?;
     let list = chests(alloc, &air, &chest)?;
     let befores = list.befores();
     for (i, x) in [(0, -2), (1, 0)] {
@@ -255,5 +261,90 @@ fn cells_are_sorted_and_found(rt: HostRuntime) -> Result<(), Fail> {
     }
     assert_eq!(rt; part.find(&pos(0, 2, 0)), None);
     assert_eq!(rt; read(&part, 5, &stone.state), None);
+    Ok(())
+}
+
+/// What stands at a position of a part under test.
+#[derive(Clone, Copy)]
+enum Cell {
+    Stone,
+    Chest,
+    /// The part doesn't have the position.
+    Out,
+}
+
+/// Both forms of the part of these cells of a box, in index order: by runs, and cell by cell.
+fn both_forms(
+    alloc: Global,
+    area: &WorldBox,
+    cells: &[Cell],
+    stone: &Content,
+    chest: &Content,
+) -> Result<(Part, Part), Memory> {
+    let source = Source { player: 3, step: 1 };
+    let mut builder = PartBuilder::new(alloc, area, source, 5);
+    let mut sorted = Vec::new(alloc);
+    for index in 0..area.volume() {
+        let Some(at) = area.position(index) else {
+            break;
+        };
+        let content = match cells.get(index as usize) {
+            Some(Cell::Out) => continue,
+            Some(Cell::Chest) => chest,
+            _ => stone,
+        };
+        builder.push(&at, content)?;
+        sorted.push((at, content.copy(alloc)?))?;
+    }
+    Ok((builder.finish(), Part::from_cells(source, 5, sorted)))
+}
+
+/// Both forms of the part of these cells of a box, of stone and chests.
+fn forms(
+    alloc: Global,
+    least: Pos,
+    sizes: (u32, u32, u32),
+    cells: &[Cell],
+) -> Result<(Part, Part), Fail> {
+    let area = WorldBox::new(least, sizes.0, sizes.1, sizes.2).ok_or("a box")?;
+    let stone = block(alloc, "minecraft:stone")?;
+    let chest = chest(alloc)?;
+    Ok(both_forms(alloc, &area, cells, &stone, &chest)?)
+}
+
+#[test]
+fn equal_cells_are_one_run(rt: HostRuntime) -> Result<(), Fail> {
+    let (runs, sorted) = forms(rt.alloc(), pos(0, 0, 0), (16, 16, 16), &[])?;
+    assert_eq!(rt; (runs.len(), stretches(&runs)), (4096, 1));
+    assert_eq!(rt; (sorted.len(), stretches(&sorted)), (4096, 4096));
+    Ok(())
+}
+
+#[test]
+fn both_forms_of_a_part_agree(rt: HostRuntime) -> Result<(), Fail> {
+    let cells = [
+        Cell::Chest,
+        Cell::Chest,
+        Cell::Out,
+        Cell::Chest,
+        Cell::Stone,
+    ];
+    let (runs, sorted) = forms(rt.alloc(), pos(3, 0, 3), (1, 5, 1), &cells)?;
+    let chest = chest(rt.alloc())?;
+    for (i, y, is_chest, reach) in [
+        (0, 0, true, 2),
+        (1, 1, true, 1),
+        (2, 3, true, 1),
+        (3, 4, false, 1),
+    ] {
+        let at = pos(3, y, 3);
+        let there = (at, is_chest, is_chest, reach);
+        assert_eq!(rt; read(&runs, i, &chest.state), Some(there));
+        let there = (at, is_chest, is_chest, 1);
+        assert_eq!(rt; read(&sorted, i, &chest.state), Some(there));
+        assert_eq!(rt; (runs.find(&at), sorted.find(&at)), (Some(i), Some(i)));
+    }
+    let out = pos(3, 2, 3);
+    assert_eq!(rt; (runs.find(&out), sorted.find(&out)), (None, None));
     Ok(())
 }
