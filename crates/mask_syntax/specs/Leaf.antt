@@ -2,15 +2,13 @@
 use Rattle.std.specs.Prelude.{ℕ, Bool, ◌||◌, ◌==◌, if◌then◌else◌, List, [], ◌∷◌, map, Some, None, Result, Ok, Err, codes, bytes_eq}
 use Rattle.edit_terms.specs.declared.mask.Leaf.{Leaf}
 use Rattle.edit_terms.specs.declared.mask.Leaf.TheVariants.{Noise, Existing, InSelection, Has, OneOf}
-use Rattle.edit_terms.specs.StateText.{TextFault, comma, opening, cut_at, listed_in, sorted_properties, state_reading}
+use Rattle.edit_terms.specs.StateText.{comma, opening, state_reading}
 use Rattle.edit_terms.specs.StateText as text
-use Rattle.block_state.specs.Read.{fault_of}
 use Rattle.block_state.specs.declared.term_fault.TermFault.{TermFault}
-use Rattle.block_state.specs.declared.term_fault.TermFault.TheVariants.{Empty, Unknown, State, Number, Memory}
-use Rattle.block_state.specs.declared.fault.StateFault.{StateFault}
-use Rattle.block_state.specs.declared.fault.StateFault.TheVariants as faults
+use Rattle.block_state.specs.declared.term_fault.TermFault.TheVariants.{Empty, Unknown, Number}
 use Rattle.term_text.specs.Pieces.{Piece, pieces_at}
 use Rattle.term_text.specs.Verdict.{verdict_map, all_or_first}
+use Rattle.term_text.specs.Part.{at_place, properties_reading}
 use Rattle.mask_syntax.specs.Chance.{chance_of}
 
 -- a share of noise: the number behind the percent sign

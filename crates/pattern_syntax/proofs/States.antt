@@ -1,15 +1,15 @@
 -- States and properties in a pattern, and what their faults say of it.
 use Rattle.std.proofs.Common.{true, false, cond, [], ◌∷◌, sym, ◌≡◌, ℕ, List, ◌++◌, Ok, Err, refl, ap, ◌∙◌}
-use Rattle.std.specs.Prelude.{Result, codes, ◌==◌, ◌||◌}
+use Rattle.std.specs.Prelude.{Result, ◌==◌, ◌||◌}
 use Rattle.std.specs.List.{onto_first}
-use Rattle.edit_terms.specs.StateText.{State, TextFault, opening, cut_at, listed_in, state_listed, state_in, state_reading, is_block_name, with_namespace, BadName}
+use Rattle.edit_terms.specs.StateText.{State, TextFault, opening, cut_at, state_listed, state_in, state_reading, is_block_name, with_namespace, BadName}
 use Rattle.block_state.specs.declared.fault.StateFault.{StateFault}
 use Rattle.block_state.specs.declared.fault.StateFault.TheVariants as faults
 use Rattle.block_state.specs.Read as states
 use Rattle.block_state.specs.Read.{name_reading}
 use Rattle.pattern_syntax.specs.Read.{Tells}
 use Rattle.pattern_syntax.specs.Value.{has_opening}
-use Rattle.term_text.specs.Part.{at_place, error_at, properties_listed, properties_reading}
+use Rattle.term_text.specs.Part.{at_place, error_at}
 
 -- an error of a part is one of the pattern, at the part's place
 pub told_at : {A : Type 0} (at : ℕ) (reading : Result A TextFault) (fault : StateFault) → states.Tells reading fault → Tells (at_place at reading) (error_at at fault)

@@ -1,5 +1,5 @@
 -- What an answer of a reader says of the text.
-use Rattle.std.specs.Prelude.{◌≡◌, List, [], ◌∷◌, Result, Ok, Err, MatchResult}
+use Rattle.std.specs.Prelude.{◌≡◌, Result, Ok, Err, MatchResult}
 use Rattle.block_state.specs.declared.fault.StateFault.TheVariants as faults
 use Rattle.block_state.specs.declared.term_fault.TermFault.{TermFault}
 use Rattle.block_state.specs.declared.term_fault.TermFault.TheVariants.{Empty, Unknown, State, Number, Weight, TooManyNoise, TooManyEntries, Memory}

@@ -3,13 +3,12 @@ use Rattle.std.specs.Prelude.{ℕ, Bool, ◌||◌, ◌==◌, if◌then◌else◌
 use Rattle.std.specs.List.{list_any}
 use Rattle.edit_terms.specs.declared.pattern.Value.{Value}
 use Rattle.edit_terms.specs.declared.pattern.Value.TheVariants.{Fixed, Rename, Put, RenamePut, Clipboard}
-use Rattle.edit_terms.specs.StateText.{TextFault, opening, cut_at, listed_in, sorted_properties, state_reading}
-use Rattle.block_state.specs.Read.{fault_of, name_reading}
+use Rattle.edit_terms.specs.StateText.{opening, state_reading}
+use Rattle.block_state.specs.Read.{name_reading}
 use Rattle.block_state.specs.declared.term_fault.TermFault.{TermFault}
-use Rattle.block_state.specs.declared.term_fault.TermFault.TheVariants.{Empty, Unknown, State, Memory}
-use Rattle.block_state.specs.declared.fault.StateFault.{StateFault}
-use Rattle.block_state.specs.declared.fault.StateFault.TheVariants as faults
+use Rattle.block_state.specs.declared.term_fault.TermFault.TheVariants.{Empty, Unknown}
 use Rattle.term_text.specs.Verdict.{verdict_map}
+use Rattle.term_text.specs.Part.{at_place, properties_reading}
 
 abbrev pub has_opening : List ℕ → Bool
 has_opening text = list_any (λ b. b == opening) text
