@@ -1,5 +1,5 @@
 -- No position far below or above those of 32 bits belongs to a selection.
-use Rattle.std.proofs.Common.{◌≡◌, ℕ, ◌+◌, ◌*◌, ◌^◌, ◌<◌, ◌≤◌, Bool, true, false, ◌&&◌, ℤ, pos, negsuc, ◌-ℤ◌, FitsSigned, refl, sym, ◌∙◌, subst, arith}
+use Rattle.std.proofs.Common.{◌≡◌, ℕ, ◌+◌, ◌*◌, ◌^◌, ◌<◌, ◌≤◌, Bool, true, false, ◌&&◌, ℤ, pos, ◌-ℤ◌, FitsSigned, refl, sym, ◌∙◌, subst, arith}
 use Rattle.std.specs.Prelude.{nat_abs, int_le}
 use Rattle.std.specs.Int.{w32}
 use Rattle.std.proofs.lemmas.Int.{ints}

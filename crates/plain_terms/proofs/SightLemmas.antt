@@ -8,7 +8,7 @@ use Rattle.edit_terms.specs.declared.pos.Pos.{Pos}
 use Rattle.edit_terms.specs.declared.mask.Sign.{Sign}
 use Rattle.edit_terms.specs.declared.mask.Sign.TheVariants.{Not, Below, Above}
 use Rattle.edit_terms.specs.declared.mask.Leaf.{Leaf}
-use Rattle.edit_terms.specs.Mask.{Scene, signs_hold, leaf_holds}
+use Rattle.edit_terms.specs.Mask.{Scene, signs_hold}
 use Rattle.plain_terms.specs.declared.sight.Sight.{Sight}
 use Rattle.plain_terms.specs.Sights.{at_height, sight_after, answered, IsSight, IsSightSoFar}
 

@@ -1,4 +1,4 @@
-use Rattle.std.proofs.Common.{◌≡◌, pos, ap, ◌∙◌, arith}
+use Rattle.std.proofs.Common.{pos, ap, ◌∙◌, arith}
 use Rattle.edit_terms.proofs.RegionLemmas.{squares}
 use Rattle.plain_terms.specs.Places.{pos_of}
 use Rattle.plain_terms.proofs.gap.distance.Goals as goal

@@ -1,5 +1,5 @@
-use Rattle.std.proofs.Common.{rules, ◌≡◌, length, arith}
-use Rattle.plain_terms.proofs.SightLemmas.{sight_more, sight_done}
+use Rattle.std.proofs.Common.{◌≡◌, length, arith}
+use Rattle.plain_terms.proofs.SightLemmas.{sight_done}
 use Rattle.plain_terms.proofs.sight.sight_of.Goals as goal
 
 pub returns : goal.returns
