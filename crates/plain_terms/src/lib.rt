@@ -36,3 +36,8 @@ pub use pattern::pattern_value;
 pub use region::is_inside;
 pub use scene::Scene;
 pub use selection::is_selected;
+
+#[cfg(test)]
+mod fixtures;
+#[cfg(test)]
+mod tests;
