@@ -31,7 +31,8 @@ pub(crate) fn leaf_holds(leaf: &Leaf, number: u32, scene: &Scene, p: &Pos, sight
 
 /// How many noise leaves a leaf is.
 pub(crate) fn noise_leaves(leaf: &Leaf) -> u32
-    ensures { result ≡ noise_leaves leaf.now }
+    ensures value { result ≡ noise_leaves leaf.now }
+    ensures most { result ≤ 1 }
 {
     match leaf {
         Leaf::Noise(_) => 1,

@@ -1,7 +1,9 @@
 //! What the calls answer, by values that were counted or worked out by hand.
-ghost use Rattle.std.specs.Prelude.{◌≡◌};
+ghost use Rattle.std.specs.Prelude.{◌≤◌, IfOk};
+ghost use Rattle.plain_terms.specs.Numbering.{noise_count};
 
 use crate::fixtures::{Fixture, at, chest, content, name, properties, state};
+use crate::leaf::noise_leaves;
 use crate::{Clipboard, Scene, is_allowed, is_inside, is_selected, pattern_value};
 use edit_terms::{
     Clip, Entry, Items, Kind, Leaf, Mask, Pattern, Region, Selection, Sign, Source, Term,
@@ -13,10 +15,10 @@ use std::test::Fail;
 /// How many positions at most 4 away from 0,0,0 on each axis belong to the region.
 fn count(region: &Region) -> u32 {
     let mut count = 0u32;
-    for x in 0..9 {
-        for y in 0..9 {
-            for z in 0..9 {
-                if is_inside(region, &at(x - 4, y - 4, z - 4)) {
+    for x in -4..5 {
+        for y in -4..5 {
+            for z in -4..5 {
+                if is_inside(region, &at(x, y, z)) {
                     count = count.saturating_add(1);
                 }
             }
@@ -87,7 +89,11 @@ fn selections_reach_the_ends_of_32_bits(rt: HostRuntime) {
     assert!(rt; !is_selected(&selection(Kind::Sphere, [0, 0, 0], [1, 1, 1]), &at(2, 0, 0)));
 }
 
-fn mask(alloc: Global, signs: &[Sign], leaf: Leaf) -> Result<Mask, Fail> {
+/// The mask of one term.
+fn mask(alloc: Global, signs: &[Sign], leaf: Leaf) -> Result<Mask, Fail>
+    ensures { IfOk result (λ mask. noise_count mask.terms ≤ 1) }
+{
+    let _one = noise_leaves(&leaf);
     let signs = Items::from_vec(Vec::from_slice(alloc, signs)?);
     let terms = Items::from_vec(vec![in alloc; Term { signs, leaf }]?);
     Ok(Mask { terms })
