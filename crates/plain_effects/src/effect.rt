@@ -1,0 +1,52 @@
+//! What a job's work does at one place.
+ghost use Rattle.std.specs.Prelude.{◌≡◌, ◌<◌, IfOk, IfSome};
+ghost use Rattle.std.specs.Option.{unwrap_or};
+ghost use Rattle.edit_terms.specs.Area.{volume};
+ghost use Rattle.clipboard_transform.specs.Bounds.{IsOnMap};
+ghost use Rattle.run_terms.specs.Change.{content_of};
+ghost use Rattle.run_terms.specs.Effect.{effect_at};
+ghost use Rattle.plain_effects.specs.Jobs.{own_task, IsOfItself, HasFewNoise, HasFewCopies};
+
+use crate::cut::cut;
+use crate::fill::filled;
+use crate::job::Job;
+use crate::paste::pasted;
+use crate::put::put;
+use crate::shift::moved;
+use crate::stack::stacked;
+use edit_terms::{Content, Work};
+use memory::Memory;
+use plain_terms::Blocks;
+use std::alloc::Global;
+
+/// The content after a job's work at a place of the list of the world's blocks. None where the content
+/// stays.
+pub(crate) fn effect(
+    alloc: Global,
+    job: &Job<'_>,
+    blocks: &Blocks<'_>,
+    index: u32,
+) -> Result<Option<Content>, Memory>
+    requires index { index < volume blocks.now.area }
+    requires work { IsOfItself job.now.spec.work }
+    requires masks { HasFewNoise job.now.spec }
+    requires origin { IfSome job.now.spec.clip (λ c. IsOnMap c.origin) }
+    requires counts { HasFewCopies job.now.spec.work }
+    ensures { IfOk result (λ new. unwrap_or new (content_of blocks.now index) ≡ effect_at (own_task job.now) blocks.now index) }
+{
+    match &job.spec.work {
+        Work::Fill {
+            region,
+            mask,
+            pattern,
+        } => filled(alloc, job, blocks, region, mask.as_ref(), pattern, index),
+        Work::Stack { from, count, to } => stacked(alloc, job, blocks, from, *count, *to, index),
+        Work::Move { from, count, to } => moved(alloc, job, blocks, from, *count, *to, index),
+        Work::Copy { .. } => Ok(None),
+        Work::Cut { from } => cut(alloc, job, blocks, from, index),
+        Work::Paste { place, skip_air } => pasted(alloc, job, blocks, place, *skip_air, index),
+        Work::Put { at, state } => put(alloc, blocks, at, state, index),
+        Work::Undo { .. } => Ok(None),
+        Work::Redo { .. } => Ok(None),
+    }
+}

@@ -1,0 +1,15 @@
+pub mod Verdict
+pub mod Read
+pub mod Stop
+pub mod Text
+pub mod Lines
+pub mod Cursor
+pub mod Words
+pub mod Arguments
+pub mod Number
+pub mod Position
+pub mod Choice
+pub mod Term
+pub mod Command
+pub mod Player
+pub mod Script

@@ -1,0 +1,53 @@
+-- Numbers of a script.
+use Rattle.std.specs.Prelude.{ℕ, ◌==◌, Bool, ◌&&◌, nat_le, nat_lt, if◌then◌else◌, ℤ, pos, int_le, nat_abs, List, [], ◌∷◌, length, Option, Some, None, option_map, neg_ℤ, Result, Ok, Err}
+use Rattle.std.specs.Char.{is_ascii_digit}
+use Rattle.std.specs.List.{list_all}
+use Rattle.std.specs.Str.Parse.{digits_value}
+use Rattle.script_syntax.specs.Verdict.{verdict_then}
+use Rattle.script_syntax.specs.declared.fault.LineFault.{LineFault}
+use Rattle.script_syntax.specs.declared.fault.LineFault.TheVariants.{BadNumber, OutOfLimit}
+
+-- 1 to 10 digits; the first ones may be zeros
+abbrev pub is_digits : List ℕ → Bool
+is_digits bytes = nat_lt 0 (length bytes) && nat_le (length bytes) 10 && list_all is_ascii_digit bytes
+
+-- the number that digits stand for in base ten
+abbrev pub natural_of : List ℕ → Option ℕ
+natural_of bytes = if is_digits bytes then Some (digits_value 10 bytes) else None
+
+-- A number: an optional minus, and 1 to 10 digits.
+abbrev pub number_of : List ℕ → Option ℤ
+number_of [] = None
+number_of (b ∷ bytes) = if b == 45 then option_map (λ n. neg_ℤ (pos n)) (natural_of bytes)
+    else option_map pos (natural_of (b ∷ bytes))
+
+-- a number from low to high, neither of which is negative
+abbrev pub limited : ℕ → ℕ → ℤ → Result ℕ LineFault
+limited low high n = if int_le (pos low) n && int_le n (pos high) then Ok (nat_abs n) else Err OutOfLimit
+
+-- a word that is a number, or none
+abbrev pub number_reading : List ℕ → Result ℤ LineFault
+number_reading word = elim (number_of word) [
+  | Some n ↦ Ok n
+  | None ↦ Err BadNumber
+]
+
+-- a count of copies, blocks or edits
+abbrev pub count_of : List ℕ → Result ℕ LineFault
+count_of word = verdict_then (limited 1 1000) (number_reading word)
+
+-- the radius of a ball or a cylinder
+abbrev pub radius_of : List ℕ → Result ℕ LineFault
+radius_of word = verdict_then (limited 0 1000) (number_reading word)
+
+-- the height of a cylinder
+abbrev pub height_of : List ℕ → Result ℕ LineFault
+height_of word = verdict_then (limited 1 4096) (number_reading word)
+
+-- the quarter turns of an angle in degrees
+abbrev pub quarters_in : ℕ → Result ℕ LineFault
+quarters_in angle = if angle == 90 then Ok 1 else (if angle == 180 then Ok 2 else (if angle == 270 then Ok 3 else Err OutOfLimit))
+
+-- an angle: 90, 180 or 270
+abbrev pub quarters_of : List ℕ → Result ℕ LineFault
+quarters_of word = verdict_then quarters_in (verdict_then (limited 90 270) (number_reading word))

@@ -1,0 +1,6 @@
+pub mod SessionLemmas
+pub mod OrderLemmas
+pub mod CarryingLemmas
+pub mod FoldLemmas
+pub mod StartLemmas
+pub mod TestLemmas

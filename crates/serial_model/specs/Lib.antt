@@ -1,0 +1,10 @@
+pub mod Copying
+pub mod Within
+pub mod Recorded
+pub mod Acted
+pub mod Ready
+pub mod Folded
+pub mod Starting
+pub mod Turns
+pub mod Illegal
+pub mod Outcomes

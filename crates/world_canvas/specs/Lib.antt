@@ -1,0 +1,7 @@
+pub mod Proposals
+pub mod Canvas
+pub mod Changes
+pub mod Restoring
+pub mod Numbering
+pub mod Writing
+pub mod Placing
