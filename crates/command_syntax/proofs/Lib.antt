@@ -1,6 +1,9 @@
 pub mod Separators
+pub mod WordCounts
 pub mod Digits
-pub mod Words
-pub mod Reading
-pub mod Faults
-pub mod PlainScripts
+pub mod Positions
+pub mod Terms
+pub mod Quoting
+pub mod ShortWords
+pub mod Joined
+pub mod Within

@@ -1,10 +1,11 @@
--- Numbers and positions of a script.
-use Rattle.std.specs.Prelude.{ℕ, ◌==◌, Bool, ◌&&◌, nat_le, nat_lt, if◌then◌else◌, ℤ, pos, negsuc, int_le, List, [], ◌∷◌, length, Option, Some, None, option_map, neg_ℤ}
+-- Numbers of a script.
+use Rattle.std.specs.Prelude.{ℕ, ◌==◌, Bool, ◌&&◌, nat_le, nat_lt, if◌then◌else◌, ℤ, pos, int_le, nat_abs, List, [], ◌∷◌, length, Option, Some, None, option_map, neg_ℤ, Result, Ok, Err}
 use Rattle.std.specs.Char.{is_ascii_digit}
 use Rattle.std.specs.List.{list_all}
 use Rattle.std.specs.Str.Parse.{digits_value}
-use Rattle.edit_terms.specs.declared.pos.Pos.{Pos}
-use Rattle.command_syntax.specs.Text.{parts}
+use Rattle.command_syntax.specs.Verdict.{verdict_then}
+use Rattle.command_syntax.specs.declared.fault.LineFault.{LineFault}
+use Rattle.command_syntax.specs.declared.fault.LineFault.TheVariants.{BadNumber, OutOfLimit}
 
 -- 1 to 10 digits; the first ones may be zeros
 abbrev pub is_digits : List ℕ → Bool
@@ -20,34 +21,33 @@ number_of [] = None
 number_of (b ∷ bytes) = if b == 45 then option_map (λ n. neg_ℤ (pos n)) (natural_of bytes)
     else option_map pos (natural_of (b ∷ bytes))
 
--- the number is one from low to high
-abbrev pub is_between : ℤ → ℤ → ℤ → Bool
-is_between low high n = int_le low n && int_le n high
+-- a number from low to high, neither of which is negative
+abbrev pub limited : ℕ → ℕ → ℤ → Result ℕ LineFault
+limited low high n = if int_le (pos low) n && int_le n (pos high) then Ok (nat_abs n) else Err OutOfLimit
 
--- an x or a z is -33,554,432 to 33,554,431
-abbrev pub is_across : ℤ → Bool
-is_across n = is_between (negsuc 33554431) (pos 33554431) n
+-- a word that is a number, or none
+abbrev pub number_reading : List ℕ → Result ℤ LineFault
+number_reading word = elim (number_of word) [
+  | Some n ↦ Ok n
+  | None ↦ Err BadNumber
+]
 
--- a y is -2,048 to 2,047
-abbrev pub is_height : ℤ → Bool
-is_height n = is_between (negsuc 2047) (pos 2047) n
+-- a count of copies, blocks or edits
+abbrev pub count_of : List ℕ → Result ℕ LineFault
+count_of word = verdict_then (limited 1 1000) (number_reading word)
 
--- the position is within the limits
-abbrev pub is_on_map : Pos → Bool
-is_on_map p = is_across p.x && is_height p.y && is_across p.z
+-- the radius of a ball or a cylinder
+abbrev pub radius_of : List ℕ → Result ℕ LineFault
+radius_of word = verdict_then (limited 0 1000) (number_reading word)
 
--- the position of three numbers, where they are within the limits
-abbrev pub position_at : Option ℤ → Option ℤ → Option ℤ → Option Pos
-position_at (Some x) (Some y) (Some z) =
-    let p : Pos = record { x = x; y = y; z = z } in
-    if is_on_map p then Some p else None
-position_at _ _ _ = None
+-- the height of a cylinder
+abbrev pub height_of : List ℕ → Result ℕ LineFault
+height_of word = verdict_then (limited 1 4096) (number_reading word)
 
--- the position of a word that was cut at its commas
-abbrev pub position_from : List (List ℕ) → Option Pos
-position_from (x ∷ y ∷ z ∷ []) = position_at (number_of x) (number_of y) (number_of z)
-position_from _ = None
+-- the quarter turns of an angle in degrees
+abbrev pub quarters_in : ℕ → Result ℕ LineFault
+quarters_in angle = if angle == 90 then Ok 1 else (if angle == 180 then Ok 2 else (if angle == 270 then Ok 3 else Err OutOfLimit))
 
--- A position: three numbers with commas between, in the order x, y and z.
-abbrev pub position_of : List ℕ → Option Pos
-position_of word = position_from (parts 44 word)
+-- an angle: 90, 180 or 270
+abbrev pub quarters_of : List ℕ → Result ℕ LineFault
+quarters_of word = verdict_then quarters_in (verdict_then (limited 90 270) (number_reading word))

@@ -1,84 +1,76 @@
-ghost use Rattle.std.specs.Prelude.{◌≡◌, [], ◌∷◌, option_map, IfOk};
-ghost use Rattle.edit_terms.specs.declared.script.Command.TheVariants.{Pos1, Pos2, Set};
-ghost use Rattle.command_syntax.specs.Number.{position_of};
-ghost use Rattle.command_syntax.specs.Command.{only, state_of, command_from, command_of};
-ghost use Rattle.command_syntax.specs.Read.{IsRead};
+//! The commands.
+ghost use Rattle.std.specs.Prelude.{◌≡◌, ◌≤◌, true, length, IfOk};
+ghost use Rattle.run_terms.specs.Limits.{is_command_within};
+ghost use Rattle.command_syntax.specs.Words.{AreShort};
+ghost use Rattle.command_syntax.specs.Command.{command_with, command_from, command_of};
+ghost use Rattle.command_syntax.specs.Read.{Gives};
 
-use crate::block::state_of;
-use crate::cuts::two_parts;
-use crate::fault::ScriptFault;
-use crate::position::position_of;
-use edit_terms::{BlockState, Command, Entry, Items, Pattern, Pos, Value};
-use memory::Memory;
+mod copying;
+mod filling;
+mod placing;
+mod session;
+mod shape;
+
+use crate::fault::LineFault;
+use crate::stop::Stop;
+use crate::verb::{Verb, verb_of};
+use crate::words::words_of;
+use edit_terms::{Command, Name};
 use std::alloc::Global;
 
-/// The command of a line: `//pos1` or `//pos2` and a position, or `//set` and a state.
-#[tactic(auto, using(crate::proofs::Words::command_of_two, crate::proofs::Words::command_of_others))]
-pub(crate) fn command_of(alloc: Global, line: &[u8]) -> Result<Command, ScriptFault>
-    ensures { IsRead (command_of line.now) result }
+/// The command of a line of at most 1,048,576 bytes.
+pub(crate) fn command_of(alloc: Global, line: &[u8]) -> Result<Command, Stop>
+    requires { length line.now ≤ 1048576 }
+    ensures read { Gives (λ command. command) (command_of line.now) result }
+    ensures within { IfOk result (λ command. is_command_within command ≡ true) }
 {
-    let Some((verb, argument)) = two_parts(line, b' ') else {
-        return Err(ScriptFault::Unbuilt);
+    let words = words_of(alloc, line)?;
+    command_from(alloc, &words)
+}
+
+fn command_from(alloc: Global, words: &[Name]) -> Result<Command, Stop>
+    requires { AreShort words.now }
+    ensures read { Gives (λ command. command) (command_from words.now) result }
+    ensures within { IfOk result (λ command. is_command_within command ≡ true) }
+{
+    let [word, behind @ ..] = words else {
+        return Err(Stop::Fault(LineFault::UnknownCommand));
     };
-    command_from(alloc, verb, argument)
+    let Some(verb) = verb_of(word.as_slice()) else {
+        return Err(Stop::Fault(LineFault::UnknownCommand));
+    };
+    command_with(alloc, verb, behind)
 }
 
-fn command_from(alloc: Global, verb: &[u8], argument: &[u8]) -> Result<Command, ScriptFault>
-    ensures { IsRead (command_from (verb.now ∷ argument.now ∷ [])) result }
+/// The command of the words behind its own.
+fn command_with(alloc: Global, verb: Verb, words: &[Name]) -> Result<Command, Stop>
+    requires { AreShort words.now }
+    ensures read { Gives (λ command. command) (command_with verb words.now) result }
+    ensures within { IfOk result (λ command. is_command_within command ≡ true) }
 {
-    if verb == b"//pos1".as_slice() {
-        return first_position(argument);
+    match verb {
+        Verb::Pos1 => placing::pos1(words),
+        Verb::Pos2 => placing::pos2(words),
+        Verb::Place => placing::place(words),
+        Verb::Sel => placing::sel(words),
+        Verb::Block => placing::block(alloc, words),
+        Verb::Set => filling::set(alloc, words),
+        Verb::Walls => filling::walls(alloc, words),
+        Verb::Faces => filling::faces(alloc, words),
+        Verb::Replace => filling::replace(alloc, words),
+        Verb::Sphere => shape::sphere(alloc, false, words),
+        Verb::HollowSphere => shape::sphere(alloc, true, words),
+        Verb::Cyl => shape::cyl(alloc, false, words),
+        Verb::HollowCyl => shape::cyl(alloc, true, words),
+        Verb::Stack => copying::stack(words),
+        Verb::Move => copying::move_selection(words),
+        Verb::Copy => copying::copy(words),
+        Verb::Cut => copying::cut(words),
+        Verb::Paste => copying::paste(words),
+        Verb::Rotate => session::rotate(words),
+        Verb::Flip => session::flip(words),
+        Verb::Gmask => session::gmask(alloc, words),
+        Verb::Undo => session::undo(words),
+        Verb::Redo => session::redo(words),
     }
-    if verb == b"//pos2".as_slice() {
-        return second_position(argument);
-    }
-    if verb == b"//set".as_slice() {
-        return set(alloc, argument);
-    }
-    Err(ScriptFault::Unbuilt)
-}
-
-fn first_position(argument: &[u8]) -> Result<Command, ScriptFault>
-    ensures { IsRead (option_map Pos1 (position_of argument.now)) result }
-{
-    let at = position(argument)?;
-    Ok(Command::Pos1 { at })
-}
-
-fn second_position(argument: &[u8]) -> Result<Command, ScriptFault>
-    ensures { IsRead (option_map Pos2 (position_of argument.now)) result }
-{
-    let at = position(argument)?;
-    Ok(Command::Pos2 { at })
-}
-
-fn position(argument: &[u8]) -> Result<Pos, ScriptFault>
-    ensures { IsRead (position_of argument.now) result }
-{
-    match position_of(argument) {
-        Some(at) => Ok(at),
-        None => Err(ScriptFault::Unbuilt),
-    }
-}
-
-fn set(alloc: Global, argument: &[u8]) -> Result<Command, ScriptFault>
-    ensures { IsRead (option_map (λ state. Set (only state)) (state_of argument.now)) result }
-{
-    let state = state_of(alloc, argument)?;
-    let pattern = only(alloc, state)?;
-    Ok(Command::Set { pattern })
-}
-
-/// The pattern that puts this state everywhere.
-fn only(alloc: Global, state: BlockState) -> Result<Pattern, Memory>
-    ensures { IfOk result (λ pattern. pattern ≡ only state) }
-{
-    let mut entries = Vec::with_capacity(alloc, 1)?;
-    entries.push(Entry {
-        weight: 1,
-        value: Value::Fixed(state),
-    })?;
-    Ok(Pattern {
-        entries: Items::from_vec(entries),
-    })
 }

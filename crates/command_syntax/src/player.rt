@@ -1,44 +1,75 @@
-ghost use Rattle.std.specs.Prelude.{◌≡◌, [], ◌∷◌, IfOk};
+//! A script's first line, which names its player.
+ghost use Rattle.std.specs.Prelude.{◌≡◌, ◌≤◌, [], ◌∷◌, true, length, IfOk};
 ghost use Rattle.std.specs.List.{list_all};
-ghost use Rattle.command_syntax.specs.Command.{is_name_byte, is_player_name, player_from, player_of};
-ghost use Rattle.command_syntax.specs.Read.{IsRead};
+ghost use Rattle.run_terms.specs.Limits.{is_one_of};
+ghost use Rattle.command_syntax.specs.Player.{is_name_byte, is_player_name, player_named, player_from, player_of};
+ghost use Rattle.command_syntax.specs.Read.{Reads};
 
-use crate::cuts::two_parts;
 use crate::fault::ScriptFault;
+use crate::stop::Stop;
+use crate::words::words_of;
 use edit_terms::Name;
-use memory::Memory;
 use std::alloc::Global;
 
-/// The player of a script's first line: `player` and a name.
-#[tactic(auto, using(crate::proofs::Words::player_of_two, crate::proofs::Words::player_of_others))]
+/// The player of a line of at most 1,048,576 bytes: `player` and a name.
 pub(crate) fn player_of(alloc: Global, line: &[u8]) -> Result<Name, ScriptFault>
-    ensures { IsRead (player_of line.now) result }
+    requires { length line.now ≤ 1048576 }
+    ensures read { Reads (λ name. name) (player_of line.now) result }
+    ensures within { IfOk result (λ name. is_one_of 1 16 (length name) ≡ true) }
 {
-    let Some((verb, name)) = two_parts(line, b' ') else {
-        return Err(ScriptFault::Unbuilt);
-    };
-    player_from(alloc, verb, name)
-}
-
-fn player_from(alloc: Global, verb: &[u8], name: &[u8]) -> Result<Name, ScriptFault>
-    ensures { IsRead (player_from (verb.now ∷ name.now ∷ [])) result }
-{
-    if verb == b"player".as_slice() && is_player_name(name) {
-        return Ok(copied(alloc, name)?);
+    match words_of(alloc, line) {
+        Ok(words) => player_from(alloc, &words),
+        Err(Stop::Fault(_fault)) => Err(ScriptFault::BadPlayer),
+        Err(Stop::Memory) => Err(ScriptFault::Memory),
     }
-    Err(ScriptFault::Unbuilt)
 }
 
-fn copied(alloc: Global, name: &[u8]) -> Result<Name, Memory>
-    ensures { IfOk result (λ copied. copied ≡ name.now) }
+fn player_from(alloc: Global, words: &[Name]) -> Result<Name, ScriptFault>
+    ensures read { Reads (λ name. name) (player_from words.now) result }
+    ensures within { IfOk result (λ name. is_one_of 1 16 (length name) ≡ true) }
 {
-    Ok(Name::from_vec(Vec::from_slice(alloc, name)?))
+    let [word, names @ ..] = words else {
+        return Err(ScriptFault::NoPlayer);
+    };
+    if word.as_slice() != b"player".as_slice() {
+        return Err(ScriptFault::NoPlayer);
+    }
+    player_named(alloc, names)
+}
+
+/// The player whose names these are.
+#[tactic(auto, using(crate::proofs::WordCounts::more_than_one_name))]
+fn player_named(alloc: Global, names: &[Name]) -> Result<Name, ScriptFault>
+    ensures read { Reads (λ name. name) (player_named names.now) result }
+    ensures within { IfOk result (λ name. is_one_of 1 16 (length name) ≡ true) }
+{
+    match names {
+        [] => Err(ScriptFault::BadPlayer),
+        [name] => good_name(alloc, name.as_slice()),
+        _ => Err(ScriptFault::BadPlayer),
+    }
+}
+
+fn good_name(alloc: Global, name: &[u8]) -> Result<Name, ScriptFault>
+    ensures read { Reads (λ name. name) (player_named (name.now ∷ [])) result }
+    ensures within { IfOk result (λ name. is_one_of 1 16 (length name) ≡ true) }
+{
+    if is_player_name(name) {
+        return Ok(Name::from_vec(Vec::from_slice(alloc, name)?));
+    }
+    Err(ScriptFault::BadPlayer)
 }
 
 fn is_player_name(name: &[u8]) -> bool
     ensures { result ≡ is_player_name name.now }
 {
-    !name.is_empty() && name.len() <= 16 && are_name_bytes(name)
+    is_name_length(name) && are_name_bytes(name)
+}
+
+fn is_name_length(name: &[u8]) -> bool
+    ensures { result ≡ is_one_of 1 16 (length name.now) }
+{
+    1 <= name.len() && name.len() <= 16
 }
 
 fn are_name_bytes(name: &[u8]) -> bool

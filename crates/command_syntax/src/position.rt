@@ -1,35 +1,59 @@
-ghost use Rattle.std.specs.Prelude.{◌≡◌, true, ◌&&◌, if◌then◌else◌, Option, Some, None};
-ghost use Rattle.edit_terms.specs.declared.pos.Pos.{Pos};
-ghost use Rattle.command_syntax.specs.Number.{is_across, is_height, is_on_map, position_at, position_of};
+//! Positions of a script.
+ghost use Rattle.std.specs.Prelude.{◌≡◌, true, negsuc, Option, Some, None, IfOk};
+ghost use Rattle.edit_terms.specs.Area.{is_from};
+ghost use Rattle.run_terms.specs.Limits.{is_position_within};
+ghost use Rattle.command_syntax.specs.Number.{number_of};
+ghost use Rattle.command_syntax.specs.Position.{position_at, position_of};
+ghost use Rattle.command_syntax.specs.Read.{Gives};
 
-use crate::cuts::three_parts;
+use crate::cut::three_parts;
+use crate::fault::LineFault;
 use crate::number::number_of;
+use crate::stop::Stop;
 use edit_terms::Pos;
 
-/// The position of a word: three numbers within the limits, with commas between. None where it is no
-/// such position.
-#[tactic(auto, using(crate::proofs::Words::position_of_three, crate::proofs::Words::position_of_others))]
-pub(crate) fn position_of(word: &[u8]) -> Option<Pos>
-    ensures { result ≡ position_of word.now }
+/// The position of a word: three numbers within the limits, with commas between.
+#[tactic(auto, using(crate::proofs::Positions::position_of_three, crate::proofs::Positions::position_of_others))]
+pub(crate) fn position_of(word: &[u8]) -> Result<Pos, Stop>
+    ensures read { Gives (λ p. p) (position_of word.now) result }
+    ensures within { IfOk result (λ p. is_position_within p ≡ true) }
 {
-    let (x, y, z) = three_parts(word, b',')?;
-    position_at(&number_of(x)?, &number_of(y)?, &number_of(z)?)
+    let Some((x, y, z)) = three_parts(word, b',') else {
+        return Err(Stop::Fault(LineFault::BadNumber));
+    };
+    position_from(x, y, z)
 }
 
-fn position_at(x: &i64, y: &i64, z: &i64) -> Option<Pos>
-    ensures { result ≡ position_at (Some x.now) (Some y.now) (Some z.now) }
+fn position_from(x: &[u8], y: &[u8], z: &[u8]) -> Result<Pos, Stop>
+    ensures read { Gives (λ p. p) (position_at (number_of x.now) (number_of y.now) (number_of z.now)) result }
+    ensures within { IfOk result (λ p. is_position_within p ≡ true) }
 {
-    if is_across(x) && is_height(y) && is_across(z) {
-        Some(position(x, y, z))
-    } else {
-        None
+    let Some(x) = number_of(x) else {
+        return Err(Stop::Fault(LineFault::BadNumber));
+    };
+    let Some(y) = number_of(y) else {
+        return Err(Stop::Fault(LineFault::BadNumber));
+    };
+    let Some(z) = number_of(z) else {
+        return Err(Stop::Fault(LineFault::BadNumber));
+    };
+    position_at(&x, &y, &z)
+}
+
+fn position_at(x: &i64, y: &i64, z: &i64) -> Result<Pos, Stop>
+    ensures read { Gives (λ p. p) (position_at (Some x.now) (Some y.now) (Some z.now)) result }
+    ensures within { IfOk result (λ p. is_position_within p ≡ true) }
+{
+    if is_across(x) && is_high(y) && is_across(z) {
+        return Ok(position(x, y, z));
     }
+    Err(Stop::Fault(LineFault::OutOfLimit))
 }
 
 fn position(x: &i64, y: &i64, z: &i64) -> Pos
-    requires across { is_across x.now ≡ true }
-    requires height { is_height y.now ≡ true }
-    requires along { is_across z.now ≡ true }
+    requires across { is_from (negsuc 33554431) 67108864 x.now ≡ true }
+    requires high { is_from (negsuc 2047) 4096 y.now ≡ true }
+    requires along { is_from (negsuc 33554431) 67108864 z.now ≡ true }
     ensures x { result.x ≡ x.now }
     ensures y { result.y ≡ y.now }
     ensures z { result.z ≡ z.now }
@@ -41,14 +65,16 @@ fn position(x: &i64, y: &i64, z: &i64) -> Pos
     }
 }
 
+/// An x or a z within the limits.
 fn is_across(number: &i64) -> bool
-    ensures { result ≡ is_across number.now }
+    ensures { result ≡ is_from (negsuc 33554431) 67108864 number.now }
 {
-    -33_554_432 <= *number && *number <= 33_554_431
+    -33_554_432 <= *number && *number < 33_554_432
 }
 
-fn is_height(number: &i64) -> bool
-    ensures { result ≡ is_height number.now }
+/// A y within the limits.
+fn is_high(number: &i64) -> bool
+    ensures { result ≡ is_from (negsuc 2047) 4096 number.now }
 {
-    -2_048 <= *number && *number <= 2_047
+    -2_048 <= *number && *number < 2_048
 }

@@ -1,81 +1,122 @@
-ghost use Rattle.std.specs.Prelude.{◌≡◌, ◌≤◌, ◌-◌, length, map, take, slice_index, if◌then◌else◌, ◌==◌, Option, Some, None, MatchOption, IfOk};
-ghost use Rattle.std.specs.List.{enumerate_from};
-ghost use Rattle.command_syntax.specs.Text.{all_of, lines_of, parts};
-ghost use Rattle.command_syntax.specs.Script.{numbered, commands_of, script_from, script_of};
-ghost use Rattle.command_syntax.specs.Read.{IsRead};
-ghost use Rattle.command_syntax.specs.Plain.{IsPlainScript};
+//! Scripts.
+ghost use Rattle.std.specs.Prelude.{◌≡◌, ◌≤◌, ◌<◌, ◌++◌, ◌∷◌, [], true, length, nat_le, position, OnOk, Ok, IfOk, IfErr, IfSome, All};
+ghost use Rattle.run_terms.specs.Limits.{IsScriptWithin, is_command_within};
+ghost use Rattle.command_syntax.specs.declared.fault.ScriptFault.TheVariants.{Memory};
+ghost use Rattle.command_syntax.specs.Lines.{told};
+ghost use Rattle.command_syntax.specs.Cursor.{line_now};
+ghost use Rattle.command_syntax.specs.Script.{numbered, judged, commands_of, script_of_lines, script_of_bytes};
+ghost use Rattle.command_syntax.specs.Read.{Reads, Tells};
 
 use crate::command::command_of;
-use crate::cuts::parts_of;
 use crate::fault::ScriptFault;
+use crate::line::{Lines, NumberedLine};
 use crate::player::player_of;
+use crate::stop::Stop;
 use edit_terms::{Items, Line, Script};
 use std::alloc::Global;
 
-/// Reads a plain script, of at most 1,048,576 bytes.
+/// How many commands a script may have.
+const MOST_COMMANDS: u32 = 10_000;
+
+/// Reads a script, of at most 1,048,576 bytes.
 ///
-/// Each of its lines ends with a line feed. The first is `player NAME`, and each later one
-/// `//pos1 X,Y,Z`, `//pos2 X,Y,Z` or `//set STATE`, with one space between the two words: at most 10,000
-/// commands. A name is 1 to 16 of A to Z, a to z, 0 to 9 and `_`. A number is an optional `-` and 1 to 10
-/// digits; x and z are -33,554,432 to 33,554,431, and y is -2,048 to 2,047. A state is a block's name, and
-/// one without a namespace is in `minecraft`. The player's line is number 1.
+/// A line ends with a line feed, before which a carriage return may stand, or with the file. Lines of blanks
+/// alone, which are spaces and tabs, and lines whose first other byte is `#` are skipped. The first other
+/// line is `player NAME`, and each later one a command: its word, and behind it the words that it takes.
+/// Words stand with blanks between. A `"` begins a part of a word that ends at the next `"`; both are
+/// dropped, and blanks between them belong to the word.
 ///
-/// `Unbuilt` for any other bytes; `Memory` where an allocation was refused.
+/// A command has the number of its line in the file, from 1.
+///
+/// An error is the first fault from the top, with the number of its line; a byte that isn't ASCII comes
+/// before all else. The fault of a line is never `Memory`, nor has one inside. `Memory` where an allocation
+/// was refused.
 pub fn read_script(alloc: Global, bytes: &[u8]) -> Result<Script, ScriptFault>
     requires { length bytes.now ≤ 1048576 }
-    ensures read { IsRead (script_of bytes.now) result }
-    ensures plain { IfOk result IsPlainScript }
+    ensures read { IfOk result (λ script. script_of_bytes bytes.now ≡ Ok script) }
+    ensures fault { IfErr result (λ fault. Tells (script_of_bytes bytes.now) fault) }
+    ensures within { IfOk result (λ script. IsScriptWithin script) }
 {
-    let Some(text) = without_last_feed(bytes) else {
-        return Err(ScriptFault::Unbuilt);
-    };
-    let lines = parts_of(alloc, text, b'\n')?;
-    script_from(alloc, &lines)
+    if let Some(byte) = first_beyond_ascii(bytes) {
+        return Err(ScriptFault::NotAscii { byte: byte as u32 });
+    }
+    let mut lines = Lines::new(bytes);
+    read_lines(alloc, &mut lines)
 }
 
-/// What stands before a line feed at the end. None where there isn't one.
-fn without_last_feed(bytes: &[u8]) -> Option<&[u8]>
-    ensures { MatchOption result (lines_of bytes.now ≡ None)
-        (λ text. lines_of bytes.now ≡ Some (parts 10 text.now)) }
+/// The place of the first byte that isn't ASCII.
+fn first_beyond_ascii(bytes: &[u8]) -> Option<usize>
+    ensures first { result ≡ position (λ b. nat_le 128 b) bytes.now }
+    ensures inside { IfSome result (λ at. at < length bytes.now) }
 {
-    match bytes {
-        [text @ .., b'\n'] => Some(text),
-        _ => None,
-    }
+    bytes.iter().position(|b| 128 <= *b)
 }
 
 /// The script of these lines.
-fn script_from(alloc: Global, lines: &[&[u8]]) -> Result<Script, ScriptFault>
-    ensures { IsRead (script_from (map (λ line. line.now) lines.now)) result }
+fn read_lines(alloc: Global, lines: &mut Lines) -> Result<Script, ScriptFault>
+    ensures read { Reads (λ script. script) (script_of_lines (told lines.old)) result }
+    ensures within { IfOk result (λ script. IsScriptWithin script) }
 {
-    let [first, rest @ ..] = lines else {
-        return Err(ScriptFault::Unbuilt);
+    let Some(first) = lines.next_told() else {
+        return Err(ScriptFault::NoPlayer);
     };
-    let player = player_of(alloc, first)?;
-    let lines = commands_of(alloc, rest)?;
+    let player = player_of(alloc, first.text)?;
+    let lines = read_commands(alloc, lines)?;
     Ok(Script { player, lines })
 }
 
-/// The commands of the lines behind the player's.
-fn commands_of(alloc: Global, lines: &[&[u8]]) -> Result<Items<Line>, ScriptFault>
-    ensures { IsRead (commands_of (map (λ line. line.now) lines.now)) result }
+/// The commands of these lines.
+#[tactic(auto, using(crate::proofs::Joined::joined_none, crate::proofs::Joined::joined_next, crate::proofs::Joined::joined_all, crate::proofs::Within::none_within, crate::proofs::Within::one_within))]
+fn read_commands(alloc: Global, lines: &mut Lines) -> Result<Items<Line>, ScriptFault>
+    ensures read { Reads (λ lines. lines) (commands_of (told lines.old)) result }
+    ensures few { IfOk result (λ lines. length lines ≤ 10000) }
+    ensures within { IfOk result (λ lines. All (λ line. is_command_within line.command ≡ true) lines) }
 {
-    if lines.len() > 10_000 {
-        return Err(ScriptFault::Unbuilt);
+    let mut commands = Vec::new(alloc);
+    let mut count = 0;
+    while let Some(line) = lines.next_told() {
+        let command = read_behind(alloc, count, &line)?;
+        count += 1;
+        put_last(&mut commands, command)?;
     }
-    numbered(alloc, lines)
+    Ok(Items::from_vec(commands))
 }
 
-/// The commands of the lines, which are numbered from 2 on.
-fn numbered(alloc: Global, lines: &[&[u8]]) -> Result<Items<Line>, ScriptFault>
-    requires { length lines.now ≤ 10000 }
-    ensures { IsRead (all_of (map numbered (enumerate_from 2 (map (λ line. line.now) lines.now)))) result }
+/// Puts a command behind the others. `Memory` where there is no room for it; it is dropped then.
+fn put_last(commands: &mut Vec<Line>, command: Line) -> Result<(), ScriptFault>
+    ensures put { OnOk result (commands.new.items ≡ commands.old.items ++ command ∷ []) }
+    ensures err { IfErr result (λ fault. fault ≡ Memory) }
 {
-    let mut read = Vec::with_capacity(alloc, lines.len())?;
-    for (index, line) in lines.iter().enumerate() {
-        let command = command_of(alloc, line)?;
-        let number = index as u32 + 2;
-        read.push(Line { number, command })?;
+    commands.push(command)?;
+    Ok(())
+}
+
+/// The command of a line behind so many others.
+fn read_behind(alloc: Global, before: u32, line: &NumberedLine) -> Result<Line, ScriptFault>
+    requires { length line.now.text.now ≤ 1048576 }
+    ensures read { Reads (λ line. line) (judged (before, line_now line.now)) result }
+    ensures within { IfOk result (λ line. is_command_within line.command ≡ true) }
+    ensures few { IfOk result (λ _. before < 10000) }
+{
+    if before >= MOST_COMMANDS {
+        return Err(ScriptFault::TooManyLines);
     }
-    Ok(Items::from_vec(read))
+    read_line(alloc, line)
+}
+
+/// The command of a line.
+fn read_line(alloc: Global, line: &NumberedLine) -> Result<Line, ScriptFault>
+    requires { length line.now.text.now ≤ 1048576 }
+    ensures read { Reads (λ line. line) (numbered (line_now line.now)) result }
+    ensures within { IfOk result (λ line. is_command_within line.command ≡ true) }
+{
+    let number = line.number;
+    match command_of(alloc, line.text) {
+        Ok(command) => Ok(Line { number, command }),
+        Err(Stop::Fault(fault)) => Err(ScriptFault::Line {
+            line: number,
+            fault,
+        }),
+        Err(Stop::Memory) => Err(ScriptFault::Memory),
+    }
 }

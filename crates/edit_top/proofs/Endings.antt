@@ -5,7 +5,7 @@ use Rattle.run_ports.specs.Store.{Files, StoreState, IsLater, IsSaved, IsTorn}
 use Rattle.run_ports.specs.Output.{OutputState, IsAppended, IsPartlyAppended}
 use Rattle.edit_top.specs.declared.top_call.Prepared.{Prepared}
 use Rattle.edit_top.specs.declared.status.Status.{Status}
-use Rattle.edit_top.specs.declared.status.Status.TheVariants.{Done, Usage, ReadFault, TooLong, WorldRefused, ScriptRefused, SaveFault, PrintFault, OutOfMemory}
+use Rattle.edit_top.specs.declared.status.Status.TheVariants.{Done, Usage, ReadFault, TooLong, WorldRefused, ScriptRefused, DuplicatePlayer, SaveFault, PrintFault, OutOfMemory}
 use Rattle.edit_top.specs.Words.{Asked, asked_by}
 use Rattle.edit_top.specs.Outputs.{output_view, AreSaved, StopsSaving}
 use Rattle.edit_top.specs.Ends.{IsRunOf, IsTold, saved_file, Ends}
@@ -20,7 +20,7 @@ prepared_run words asked told prepared are made = record {
   asked = asked;
   are = are;
   loaded = made.loaded;
-  script = made.script;
+  scripts = made.scripts;
   world = made.world;
   read = made.read;
   order = made.made.order;
@@ -83,6 +83,7 @@ module _ (words : List (List ℕ)) (asked : Asked) (are : asked_by words ≡ Som
   ends_finished (TooLong file) f = absurd f
   ends_finished (WorldRefused fault) f = absurd f
   ends_finished (ScriptRefused script fault) f = absurd f
+  ends_finished (DuplicatePlayer script) f = absurd f
   ends_finished OutOfMemory f = absurd f
 
 -- a run that stopped before its save ends so
@@ -96,4 +97,5 @@ ends_stopped words asked before after shown told (ReadFault file) are cause stay
 ends_stopped words asked before after shown told (TooLong file) are cause stays message = record { asked = asked; are = are; cause = cause; stays = stays; message = message }
 ends_stopped words asked before after shown told (WorldRefused fault) are cause stays message = record { asked = asked; are = are; cause = cause; stays = stays; message = message }
 ends_stopped words asked before after shown told (ScriptRefused script fault) are cause stays message = record { asked = asked; are = are; cause = cause; stays = stays; message = message }
+ends_stopped words asked before after shown told (DuplicatePlayer script) are cause stays message = record { asked = asked; are = are; cause = cause; stays = stays; message = message }
 ends_stopped words asked before after shown told OutOfMemory are cause stays message = record { asked = asked; are = are; cause = cause; stays = stays; message = message }

@@ -1,11 +1,10 @@
-pub mod Ranges
-pub mod Filling
-pub mod Answering
-pub mod Running
 pub mod Printing
 pub mod Messages
 pub mod Saving
 pub mod Endings
 pub mod Digits
-pub mod CanvasEntities
 pub mod Writable
+pub mod Scripts
+pub mod ScriptFaults
+pub mod Completeness
+pub mod RoundLemmas

@@ -1,20 +1,19 @@
 -- The world that a run leaves can be written where the one that it read could: its entities are among those.
-use Rattle.std.proofs.Common.{◌≡◌, ℕ, ◌+◌, ◌<◌, ◌≤◌, List, length, map, get_or, Option, Some, None, Result, Ok, Err, refl, sym, ap, ◌∙◌, subst, arith}
-use Rattle.std.specs.Prelude.{All, IfSome, is_some, count_by}
+use Rattle.std.proofs.Common.{◌≡◌, ℕ, ◌<◌, ◌≤◌, List, length, get_or, Option, Some, None, Result, Err, refl, ap, ◌∙◌, subst, arith}
+use Rattle.std.specs.Prelude.{IfSome, is_some}
 use Rattle.std.proofs.lemmas.List.{get_or_default}
 use Rattle.std.proofs.lemmas.List.FromFn.{length-map-range_with_len}
 use Rattle.std.proofs.lemmas.List.Sums.{count_by-le-length}
-use Rattle.edit_terms.specs.Area.{Area, volume}
+use Rattle.edit_terms.specs.Area.{volume}
 use Rattle.edit_terms.specs.World.{BlockContent, EntityTags, World, IsWorld, air_content}
 use Rattle.edit_terms.specs.Grid.{GridParts, world_of, content_of_cell}
 use Rattle.run_terms.specs.Workload.{Workload}
 use Rattle.run_terms.specs.Change.{content_of}
-use Rattle.run_terms.specs.Entities.{HasEntity, HasOnlyEntitiesOf}
-use Rattle.run_terms.specs.Fold.{world_after}
+use Rattle.run_terms.specs.Entities.{HasOnlyEntitiesOf}
 use Rattle.run_terms.specs.Reply.{final_world}
 use Rattle.run_terms.proofs.FoldLemmas.{area-world_after, whole-world_after}
 use Rattle.run_terms.proofs.EntityLemmas.{entities_come_from_the_opening_world}
-use Rattle.block_entities.specs.FileEntities.{IsFileEntity, AreFileEntities, entity_count}
+use Rattle.block_entities.specs.FileEntities.{IsFileEntity, AreFileEntities}
 use Rattle.sponge_schematic.specs.Carried.{CarriedTags, Loaded}
 use Rattle.sponge_schematic.specs.Answers.{Fails}
 use Rattle.sponge_schematic.specs.declared.fault.WorldFault.{WorldFault}

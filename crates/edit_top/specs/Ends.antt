@@ -1,5 +1,5 @@
 -- The end-to-end theorem: what stands after each ending of a run, and why it came.
-use Rattle.std.specs.Prelude.{◌≡◌, ℕ, ◌≤◌, ◌⊎◌, List, [], ◌∷◌, length, take, Option, Some, None}
+use Rattle.std.specs.Prelude.{◌≡◌, ℕ, ◌≤◌, ◌⊎◌, List, length, take, Option, Some, None}
 use Rattle.edit_terms.specs.declared.script.Script.{Script}
 use Rattle.run_terms.specs.Workload.{Workload}
 use Rattle.run_terms.specs.Order.{IsLegalOrder, IsWholeOrder}
@@ -10,36 +10,37 @@ use Rattle.run_ports.specs.Output.{OutputState, IsAppended, IsPartlyAppended}
 use Rattle.sponge_schematic.specs.Carried.{Loaded}
 use Rattle.sponge_schematic.specs.File.{schematic_bytes}
 use Rattle.edit_top.specs.declared.status.Status.{Status}
-use Rattle.edit_top.specs.declared.status.Status.TheVariants.{Done, Usage, ReadFault, TooLong, WorldRefused, ScriptRefused, SaveFault, PrintFault, OutOfMemory}
+use Rattle.edit_top.specs.declared.status.Status.TheVariants.{Done, Usage, ReadFault, TooLong, WorldRefused, ScriptRefused, DuplicatePlayer, SaveFault, PrintFault, OutOfMemory}
 use Rattle.edit_top.specs.Words.{Asked, asked_by}
 use Rattle.edit_top.specs.Status.{fault_text, usage_text}
 use Rattle.edit_top.specs.RunText.{run_text}
-use Rattle.edit_top.specs.Reading.{HasWorld, HasScript, IsCause}
+use Rattle.edit_top.specs.Reading.{HasWorld, AreAllScripts, IsCause}
 
--- the workload of a world and one script, with the seed and the depth of the words
-abbrev pub workload : Asked → Loaded → Script → Workload
-workload asked loaded script = record { opening = loaded.world; scripts = script ∷ []; seed = asked.seed; depth = asked.depth }
+-- the workload of a world and scripts, with the seed and the depth of the words
+abbrev pub workload : Asked → Loaded → List Script → Workload
+workload asked loaded scripts = record { opening = loaded.world; scripts = scripts; seed = asked.seed; depth = asked.depth }
 
--- A run of these words over these files: the world and the script that were read, and one order of all commands.
+-- A run of these words over these files: the world and the scripts that were read, in the order of the words, and one
+-- order of all commands.
 pub record IsRunOf (words : List (List ℕ)) (told : Option Files) : Type 0 where
   pub asked : Asked
   pub are : asked_by words ≡ Some asked
   pub loaded : Loaded
-  pub script : Script
+  pub scripts : List Script
   pub world : HasWorld told asked.names loaded
-  pub read : HasScript told asked.names script
+  pub read : AreAllScripts told asked.names.scripts scripts
   pub order : List ℕ
-  pub legal : IsLegalOrder (script ∷ []) order
-  pub whole : IsWholeOrder (script ∷ []) order
+  pub legal : IsLegalOrder scripts order
+  pub whole : IsWholeOrder scripts order
 
 module _ {words : List (List ℕ)} {told : Option Files} where
   -- the file of the world that the order leaves
   abbrev pub saved_file : IsRunOf words told → List ℕ
-  saved_file run = schematic_bytes run.loaded.carried (final_world (workload run.asked run.loaded run.script) run.order)
+  saved_file run = schematic_bytes run.loaded.carried (final_world (workload run.asked run.loaded run.scripts) run.order)
 
   -- the text of the order and its replies
   abbrev pub printed_text : IsRunOf words told → List ℕ
-  printed_text run = run_text (workload run.asked run.loaded run.script) run.order
+  printed_text run = run_text (workload run.asked run.loaded run.scripts) run.order
 
 -- a prefix of the message was put, and all of it where the output's faults didn't rise
 pub record IsTold (before after : OutputState) (text : List ℕ) : Type 0 where
@@ -92,9 +93,10 @@ Ends words before after shown told (ReadFault file) = IsStopped words before aft
 Ends words before after shown told (TooLong file) = IsStopped words before after shown told (TooLong file)
 Ends words before after shown told (WorldRefused fault) = IsStopped words before after shown told (WorldRefused fault)
 Ends words before after shown told (ScriptRefused script fault) = IsStopped words before after shown told (ScriptRefused script fault)
+Ends words before after shown told (DuplicatePlayer script) = IsStopped words before after shown told (DuplicatePlayer script)
 Ends words before after shown told OutOfMemory = IsStopped words before after shown told OutOfMemory
 
--- Nothing outside failed: no count of failures rose, of loads of the world and the script, of saves of OUT, and of the
+-- Nothing outside failed: no count of failures rose, of loads of the world and the scripts, of saves of OUT, and of the
 -- output.
 pub record NothingFailed (before after : StoreState) (shown told : OutputState) : Type 0 where
   pub loads : (name : List ℕ) → ¬ Rose (before.faults name) (after.faults name)
@@ -108,7 +110,7 @@ IsNoFailure SaveFault = ⊥
 IsNoFailure PrintFault = ⊥
 IsNoFailure _ = Unit {0}
 
--- Good words over told files that hold a plain world and a plain script, each within its limit.
+-- Good words over told files that hold a world and scripts of distinct players, each within its limit.
 pub record IsGood (words : List (List ℕ)) (told : Option Files) : Type 0 where
   pub files : Files
   pub tells : told ≡ Some files
@@ -116,8 +118,8 @@ pub record IsGood (words : List (List ℕ)) (told : Option Files) : Type 0 where
   pub are : asked_by words ≡ Some asked
   pub loaded : Loaded
   pub world : HasWorld told asked.names loaded
-  pub script : Script
-  pub read : HasScript told asked.names script
+  pub scripts : List Script
+  pub read : AreAllScripts told asked.names.scripts scripts
 
 -- the run ended well, or an allocation was refused
 abbrev pub IsDoneOrMemory : Status → Type 0

@@ -1,8 +1,7 @@
-pub mod Canvas
-pub mod CanvasGrid
-pub mod Plain
 pub mod RunText
 pub mod Words
+pub mod WorldFaultText
+pub mod ScriptFaultText
 pub mod Status
 pub mod Reading
 pub mod Outputs

@@ -14,25 +14,25 @@ use Rattle.edit_top.specs.declared.status.Status.TheVariants.{Done, SaveFault, P
 use Rattle.edit_top.specs.Words.{FileNames, Asked}
 use Rattle.edit_top.specs.Status.{fault_text}
 use Rattle.edit_top.specs.RunText.{run_text}
-use Rattle.edit_top.specs.Reading.{HasWorld, HasScript}
+use Rattle.edit_top.specs.Reading.{HasWorld, AreAllScripts}
 use Rattle.edit_top.specs.Outputs.{output_view, AreSaved, StopsSaving}
 use Rattle.edit_top.specs.Ends.{workload, IsTold}
 
--- the file and the text of one order of a script's commands over a world
-pub record IsMade (asked : Asked) (loaded : Loaded) (script : Script) (prepared : Prepared) : Type 0 where
+-- the file and the text of one order of the scripts' commands over a world
+pub record IsMade (asked : Asked) (loaded : Loaded) (scripts : List Script) (prepared : Prepared) : Type 0 where
   pub order : List ℕ
-  pub legal : IsLegalOrder (script ∷ []) order
-  pub whole : IsWholeOrder (script ∷ []) order
-  pub outputs : map output_view prepared.outputs.items ≡ (asked.names.out, schematic_bytes loaded.carried (final_world (workload asked loaded script) order)) ∷ []
-  pub text : prepared.text.items ≡ run_text (workload asked loaded script) order
+  pub legal : IsLegalOrder scripts order
+  pub whole : IsWholeOrder scripts order
+  pub outputs : map output_view prepared.outputs.items ≡ (asked.names.out, schematic_bytes loaded.carried (final_world (workload asked loaded scripts) order)) ∷ []
+  pub text : prepared.text.items ≡ run_text (workload asked loaded scripts) order
 
--- the same of the world and the script that were read
+-- the same of the world and the scripts that were read
 pub record IsPrepared (asked : Asked) (told : Option Files) (prepared : Prepared) : Type 0 where
   pub loaded : Loaded
-  pub script : Script
+  pub scripts : List Script
   pub world : HasWorld told asked.names loaded
-  pub read : HasScript told asked.names script
-  pub made : IsMade asked loaded script prepared
+  pub read : AreAllScripts told asked.names.scripts scripts
+  pub made : IsMade asked loaded scripts prepared
 
 -- all is saved and the whole text is put
 pub record IsAllOut (before after : StoreState) (shown told : OutputState) (prepared : Prepared) : Type 0 where

@@ -1,19 +1,19 @@
 //! The program's top call.
 //!
-//! `run` reads a world's file and a player's script, runs the script, saves the world and prints each
+//! `run` reads a world's file and the players' scripts, runs them, saves the world and prints each
 //! command's reply. Its contract is the end-to-end theorem: what it saves and prints is what a plain fold
 //! of the commands in one order gives, and each other ending comes with its cause.
 #![tactic(auto)]
 
-mod canvas;
-mod canvas_grid;
 #[cfg(test)]
 mod fixtures;
-mod fold;
 mod loading;
 mod outputs;
+mod rounds;
 mod run_text;
-mod session;
+mod running;
+mod script_fault;
+mod state_fault;
 mod status;
 mod telling;
 #[cfg(test)]

@@ -1,12 +1,12 @@
 //! Loads and reads the files of a run.
 
-ghost use Rattle.std.specs.Prelude.{◌≡◌, ◌≤◌, length, IfOk, IfErr};
+ghost use Rattle.std.specs.Prelude.{◌≡◌, suc, ◌≤◌, ◌<◌, false, length, map, string_bytes, IfOk, IfErr, All};
 ghost use Rattle.run_ports.specs.Store.{IsLater};
 ghost use Rattle.edit_terms.specs.Grid.{world_of};
 ghost use Rattle.sponge_schematic.specs.Read.{loaded_of, IsWritable};
-ghost use Rattle.command_syntax.specs.Plain.{IsPlainScript};
+ghost use Rattle.run_terms.specs.Limits.{IsScriptWithin};
 ghost use Rattle.edit_top.specs.Words.{names_view};
-ghost use Rattle.edit_top.specs.Reading.{world_limit, HasWorld, HasScript, IsWorldCause, IsScriptCause};
+ghost use Rattle.edit_top.specs.Reading.{world_limit, HasWorld, HasScript, has_player, AreAllScripts, IsWorldCause, refusal, IsLoadCause, IsScriptCause, IsOfScript, StopsAtScript};
 
 use crate::status::Status;
 use crate::words::Names;
@@ -46,29 +46,94 @@ pub(crate) fn load_world<F: Shelf>(
     }
 }
 
-/// Loads and reads the script.
-pub(crate) fn load_script<F: Shelf>(
+/// Loads and reads the scripts in order.
+pub(crate) fn load_scripts<F: Shelf>(
     alloc: Global,
-    names: &Names<'_>,
+    names: &[String],
     shelf: &mut F,
-) -> Result<Script, Status>
-    ensures script { IfOk result (HasScript (F.seen shelf.old).files (names_view names.now)) }
-    ensures plain { IfOk result IsPlainScript }
-    ensures cause { IfErr result (IsScriptCause (names_view names.now) (F.seen shelf.old) (F.seen shelf.new)) }
+) -> Result<Vec<Script>, Status>
+    requires few { length names.now ≤ 64 }
+    ensures scripts { IfOk result (λ scripts. AreAllScripts (F.seen shelf.old).files (map string_bytes names.now) scripts.items) }
+    ensures within { IfOk result (λ scripts. All IsScriptWithin scripts.items) }
+    ensures cause { IfErr result (StopsAtScript (map string_bytes names.now) (F.seen shelf.old) (F.seen shelf.new)) }
     ensures stays { (F.seen shelf.new).files ≡ (F.seen shelf.old).files }
     ensures later { IsLater (F.seen shelf.old) (F.seen shelf.new) }
 {
-    match shelf.load(alloc, names.script, SCRIPT_LIMIT) {
-        Err(LoadError::Failed) => Err(Status::ReadFault { file: 1 }),
-        Err(LoadError::TooLong) => Err(Status::TooLong { file: 1 }),
+    let mut scripts = Vec::new(alloc);
+    for name in names {
+        let script = load_script(alloc, name.as_str(), &scripts, shelf)?;
+        scripts.push(script)?;
+    }
+    Ok(scripts)
+}
+
+/// Loads and reads the script behind the earlier ones.
+fn load_script<F: Shelf>(
+    alloc: Global,
+    name: &str,
+    earlier: &[Script],
+    shelf: &mut F,
+) -> Result<Script, Status>
+    requires few { length earlier.now < 64 }
+    ensures script { IfOk result (λ script. HasScript (F.seen shelf.old).files name.now script) }
+    ensures within { IfOk result IsScriptWithin }
+    ensures new { IfOk result (λ script. has_player earlier.now script.player ≡ false) }
+    ensures cause { IfErr result (IsScriptCause name.now earlier.now (F.seen shelf.old) (F.seen shelf.new)) }
+    ensures number { IfErr result (IsOfScript (suc (length earlier.now))) }
+    ensures stays { (F.seen shelf.new).files ≡ (F.seen shelf.old).files }
+    ensures later { IsLater (F.seen shelf.old) (F.seen shelf.new) }
+{
+    let number = earlier.len() as u32 + 1;
+    let script = load_numbered(alloc, name, number, shelf)?;
+    if has_player(earlier, script.player.as_slice()) {
+        return Err(Status::DuplicatePlayer { script: number });
+    }
+    Ok(script)
+}
+
+/// Loads and reads the script of this number.
+fn load_numbered<F: Shelf>(
+    alloc: Global,
+    name: &str,
+    number: u32,
+    shelf: &mut F,
+) -> Result<Script, Status>
+    ensures script { IfOk result (λ script. HasScript (F.seen shelf.old).files name.now script) }
+    ensures within { IfOk result IsScriptWithin }
+    ensures cause { IfErr result (IsLoadCause name.now (F.seen shelf.old) (F.seen shelf.new)) }
+    ensures number { IfErr result (IsOfScript number) }
+    ensures stays { (F.seen shelf.new).files ≡ (F.seen shelf.old).files }
+    ensures later { IsLater (F.seen shelf.old) (F.seen shelf.new) }
+{
+    match shelf.load(alloc, name, SCRIPT_LIMIT) {
+        Err(LoadError::Failed) => Err(Status::ReadFault { file: number }),
+        Err(LoadError::TooLong) => Err(Status::TooLong { file: number }),
         Err(LoadError::Memory) => Err(Status::OutOfMemory),
         Ok(bytes) => match read_script(alloc, &bytes) {
-            Err(ScriptFault::Memory) => Err(Status::OutOfMemory),
-            Err(ScriptFault::Unbuilt) => Err(Status::ScriptRefused {
-                script: 1,
-                fault: ScriptFault::Unbuilt,
-            }),
             Ok(script) => Ok(script),
+            Err(fault) => Err(refusal(number, fault)),
         },
     }
+}
+
+/// The ending of a run whose script of this number has this fault.
+fn refusal(number: u32, fault: ScriptFault) -> Status
+    ensures { result ≡ refusal number fault }
+{
+    match fault {
+        ScriptFault::Memory => Status::OutOfMemory,
+        fault => Status::ScriptRefused {
+            script: number,
+            fault,
+        },
+    }
+}
+
+/// One of these scripts is the player's.
+fn has_player(scripts: &[Script], player: &[u8]) -> bool
+    ensures { result ≡ has_player scripts.now player.now }
+{
+    scripts
+        .iter()
+        .any(|script| script.player.as_slice() == player)
 }

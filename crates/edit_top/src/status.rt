@@ -1,5 +1,12 @@
+//! How a call of the program ends.
+
+ghost use Rattle.std.specs.Prelude.{◌≡◌};
+ghost use Rattle.edit_top.specs.declared.status.Status.TheVariants as statuses;
+
 use command_syntax::ScriptFault;
+use memory::Memory;
 use sponge_schematic::WorldFault;
+use std::alloc::AllocFailed;
 
 /// How a call of the program ended. File 0 is the world, and scripts count from 1.
 #[derive(Debug, Drop)]
@@ -16,6 +23,8 @@ pub enum Status {
     WorldRefused { fault: WorldFault },
     /// A script is refused.
     ScriptRefused { script: u32, fault: ScriptFault },
+    /// A script's player stands in an earlier script.
+    DuplicatePlayer { script: u32 },
     /// The world can't be saved.
     SaveFault,
     /// The text can't be put.
@@ -25,7 +34,6 @@ pub enum Status {
 }
 
 impl Status {
-    ghost use Rattle.std.specs.Prelude.{◌≡◌};
     ghost use Rattle.edit_top.specs.Status.{code_of};
 
     /// The exit status of the program.
@@ -39,9 +47,27 @@ impl Status {
             Status::TooLong { .. } => 4,
             Status::WorldRefused { .. } => 5,
             Status::ScriptRefused { .. } => 6,
+            Status::DuplicatePlayer { .. } => 7,
             Status::SaveFault => 9,
             Status::PrintFault => 10,
             Status::OutOfMemory => 11,
         }
+    }
+}
+
+impl From<Memory> for Status {
+    ghost from_gives = { λ _ status. status ≡ statuses.OutOfMemory };
+
+    fn from(_error: Memory) -> Status {
+        Status::OutOfMemory
+    }
+}
+
+/// The value that found no room is dropped.
+impl<T: Drop> From<AllocFailed<T>> for Status {
+    ghost from_gives = { λ _ status. status ≡ statuses.OutOfMemory };
+
+    fn from(_error: AllocFailed<T>) -> Status {
+        Status::OutOfMemory
     }
 }

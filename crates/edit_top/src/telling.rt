@@ -1,10 +1,11 @@
 //! Prints the message of an ending.
 
-ghost use Rattle.std.specs.Prelude.{flat_map};
+ghost use Rattle.std.specs.Prelude.{◌++◌, flat_map};
 ghost use Rattle.edit_top.specs.Ends.{IsTold};
 ghost use Rattle.edit_top.specs.Words.{names_view};
 ghost use Rattle.edit_top.specs.Status.{fault_text, usage_text};
 
+use crate::script_fault::tell_script_fault;
 use crate::status::Status;
 use crate::words::Names;
 use crate::world_fault::tell_world_fault;
@@ -28,48 +29,31 @@ pub(crate) fn tell_fault<K: Sink>(out: &mut K, names: &Names<'_>, status: &Statu
         Status::Done | Status::PrintFault => tell(out, &[]),
         Status::Usage => tell_usage(out),
         Status::ReadFault { file } => {
-            tell(
-                out,
-                &[
-                    b"fault: cannot read ".as_slice(),
-                    names.file(*file),
-                    b"\n".as_slice(),
-                ],
-            );
+            tell_about(out, b"fault: cannot read ", names.file(*file), b"\n");
         }
         Status::TooLong { file } => {
-            tell(
-                out,
-                &[
-                    b"fault: too long: ".as_slice(),
-                    names.file(*file),
-                    b"\n".as_slice(),
-                ],
-            );
+            tell_about(out, b"fault: too long: ", names.file(*file), b"\n");
         }
         Status::WorldRefused { fault } => tell_world_fault(out, fault),
-        Status::ScriptRefused { script, .. } => {
-            tell(
-                out,
-                &[
-                    b"fault: script ".as_slice(),
-                    names.file(*script),
-                    b": not built\n".as_slice(),
-                ],
-            );
+        Status::ScriptRefused { script, fault } => {
+            tell_script_fault(out, names.file(*script), fault);
+        }
+        Status::DuplicatePlayer { script } => {
+            let name = names.file(*script);
+            tell_about(out, b"fault: script ", name, b": player already used\n");
         }
         Status::SaveFault => {
-            tell(
-                out,
-                &[
-                    b"fault: cannot save ".as_slice(),
-                    names.out.as_bytes(),
-                    b"\n".as_slice(),
-                ],
-            );
+            tell_about(out, b"fault: cannot save ", names.out.as_bytes(), b"\n");
         }
         Status::OutOfMemory => tell(out, &[b"fault: memory\n".as_slice()]),
     }
+}
+
+/// Puts a name between these words.
+fn tell_about<K: Sink>(out: &mut K, start: &[u8], name: &[u8], end: &[u8])
+    ensures { IsTold (K.seen out.old) (K.seen out.new) (start.now ++ name.now ++ end.now) }
+{
+    tell(out, &[start, name, end]);
 }
 
 /// Puts the pieces one after the other, and nothing more after one that fails.

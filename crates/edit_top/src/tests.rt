@@ -11,6 +11,7 @@ use command_syntax::ScriptFault;
 use run_ports::{NullSink, OpenGate, Shelf, SteadyShelf};
 use sponge_schematic::WorldFault;
 use std::alloc::Global;
+use std::process::Abort;
 use std::sync::Wait;
 use std::test::Fail;
 use std::thread::Threads;
@@ -27,14 +28,142 @@ fn one_block_set_end_to_end(rt: HostRuntime) -> Result<(), Fail> {
     Ok(())
 }
 
+/// The second of two scripts has the first one's player.
 #[test]
-fn plain_script_with_properties_is_unbuilt(rt: HostRuntime) -> Result<(), Fail> {
+fn a_player_stands_in_one_script(rt: HostRuntime) -> Result<(), Fail> {
     let alloc = rt.alloc();
-    let script = "player anna\n//pos1 0,0,0\n//pos2 0,0,0\n//set stone[a=1]\n";
-    let ended = Outside::steady(&ONE_DIRT, script).run(&rt, alloc)?;
-    let status = "ScriptRefused { script: 1, fault: Unbuilt }";
-    let text = "fault: script anna.txt: not built\n";
+    let words = [
+        "run",
+        "in.schem",
+        "out.schem",
+        "0",
+        "1",
+        "15",
+        "anna.txt",
+        "anna.txt",
+    ];
+    let ended = Outside::steady(&ONE_DIRT, SET_DIRT).run_words(&rt, alloc, &words)?;
+    let status = "DuplicatePlayer { script: 2 }";
+    let text = "fault: script anna.txt: player already used\n";
     ended.assert_is(&rt, alloc, status, text, OLD)
+}
+
+/// The first file that can't be loaded stops a run, whatever follows.
+#[test]
+fn scripts_are_loaded_in_order(rt: HostRuntime) -> Result<(), Fail> {
+    let alloc = rt.alloc();
+    let words = [
+        "run",
+        "in.schem",
+        "out.schem",
+        "0",
+        "1",
+        "15",
+        "anna.txt",
+        "none.txt",
+        "anna.txt",
+    ];
+    let ended = Outside::steady(&ONE_DIRT, SET_DIRT).run_words(&rt, alloc, &words)?;
+    let text = "fault: cannot read none.txt\n";
+    ended.assert_is(&rt, alloc, "ReadFault { file: 2 }", text, OLD)
+}
+
+/// A script is refused with this fault, which has this message, and OUT is as it was.
+fn assert_script_refused(
+    rt: &(impl Threads + Wait + Abort + Sync),
+    alloc: Global,
+    script: &str,
+    fault: &str,
+    text: &str,
+) -> Result<(), Fail> {
+    let status = format!(in alloc; "ScriptRefused {{ script: 1, fault: {fault} }}")?;
+    let message = format!(in alloc; "fault: script anna.txt: {text}\n")?;
+    Outside::steady(&ONE_DIRT, script)
+        .run(rt, alloc)?
+        .assert_is(rt, alloc, &status, &message, OLD)
+}
+
+/// Each fault of a script has its message.
+#[test]
+fn faults_of_scripts_are_told(rt: HostRuntime) -> Result<(), Fail> {
+    let alloc = rt.alloc();
+    for (script, fault, text) in [
+        (
+            "player anna\n# \u{e4}\n",
+            "NotAscii { byte: 14 }",
+            "byte 14 is not ascii",
+        ),
+        ("", "NoPlayer", "no player"),
+        ("player anna bob\n", "BadPlayer", "bad player"),
+    ] {
+        assert_script_refused(&rt, alloc, script, fault, text)?;
+    }
+    let mut long = String::from_str(alloc, "player anna\n")?;
+    for _ in 0..10_001 {
+        long.push_str("//copy\n")?;
+    }
+    assert_script_refused(&rt, alloc, &long, "TooManyLines", "too many commands")
+}
+
+/// Each fault of a line has its message.
+#[test]
+fn faults_of_lines_are_told(rt: HostRuntime) -> Result<(), Fail> {
+    let alloc = rt.alloc();
+    for (line, fault, text) in [
+        ("//set \"a", "OpenQuote", "open quote"),
+        ("//dig", "UnknownCommand", "unknown command"),
+        ("//set", "MissingWord", "missing word"),
+        ("//copy 1", "ExtraWord", "extra word"),
+        ("//pos1 0,0", "BadNumber", "bad number"),
+        ("//rotate 45", "OutOfLimit", "out of limit"),
+        ("//flip x", "BadDirection", "bad direction"),
+        ("//sel ball", "BadOption", "bad option"),
+    ] {
+        let script = format!(in alloc; "player anna\n{line}\n")?;
+        let fault = format!(in alloc; "Line {{ line: 2, fault: {fault} }}")?;
+        let text = format!(in alloc; "line 2: {text}")?;
+        assert_script_refused(&rt, alloc, &script, &fault, &text)?;
+    }
+    Ok(())
+}
+
+/// A script with this pattern in its second line is refused with this fault.
+fn assert_pattern_refused(
+    rt: &(impl Threads + Wait + Abort + Sync),
+    alloc: Global,
+    pattern: &str,
+    fault: &str,
+    text: &str,
+) -> Result<(), Fail> {
+    let script = format!(in alloc; "player anna\n//set {pattern}\n")?;
+    let fault = format!(in alloc; "Line {{ line: 2, fault: Term({fault}) }}")?;
+    let text = format!(in alloc; "line 2: term at {text}")?;
+    assert_script_refused(rt, alloc, &script, &fault, &text)
+}
+
+/// Each fault of a term has its message.
+#[test]
+fn faults_of_terms_are_told(rt: HostRuntime) -> Result<(), Fail> {
+    let alloc = rt.alloc();
+    for (pattern, fault, text) in [
+        ("stone,", "Empty { at: 6 }", "6: empty"),
+        ("#none", "Unknown { at: 0 }", "0: unknown"),
+        ("0%stone", "Weight { at: 0 }", "0: weight"),
+        ("Stone", "State { at: 0, fault: BadName }", "0: bad name"),
+        (
+            "stone[a]",
+            "State { at: 0, fault: BadProperty }",
+            "0: bad property",
+        ),
+        (
+            "stone[a=1,a=2]",
+            "State { at: 0, fault: RepeatedKey }",
+            "0: repeated key",
+        ),
+    ] {
+        assert_pattern_refused(&rt, alloc, pattern, fault, text)?;
+    }
+    Ok(())
 }
 
 #[test]
@@ -116,16 +245,6 @@ fn other_words_are_usage(rt: HostRuntime) -> Result<(), Fail> {
         &["run"],
         &["run", "in.schem", "out.schem", "anna.txt"],
         &["run", "in.schem", "out.schem", "0", "1", "15"],
-        &[
-            "run",
-            "in.schem",
-            "out.schem",
-            "0",
-            "1",
-            "15",
-            "anna.txt",
-            "bob.txt",
-        ],
         &["check", "in.schem", "out.schem", "0", "1", "15", "anna.txt"],
         &["Run", "in.schem", "out.schem", "0", "1", "15", "anna.txt"],
     ] {
@@ -133,6 +252,25 @@ fn other_words_are_usage(rt: HostRuntime) -> Result<(), Fail> {
         ended.assert_is(&rt, alloc, "Usage", text, OLD)?;
     }
     Ok(())
+}
+
+#[test]
+fn at_most_64_scripts_are_taken(rt: HostRuntime) -> Result<(), Fail> {
+    let alloc = rt.alloc();
+    let outside = Outside::steady(&ONE_DIRT, SET_DIRT);
+    let mut words = WORDS.to_vec(alloc)?;
+    for _ in 1..64 {
+        words.push("anna.txt")?;
+    }
+    let text = "fault: script anna.txt: player already used\n";
+    outside
+        .run_words(&rt, alloc, &words)?
+        .assert_is(&rt, alloc, "DuplicatePlayer { script: 2 }", text, OLD)?;
+    words.push("anna.txt")?;
+    let text = "fault: usage: run WORLD OUT SEED WORKERS DEPTH SCRIPT\n";
+    outside
+        .run_words(&rt, alloc, &words)?
+        .assert_is(&rt, alloc, "Usage", text, OLD)
 }
 
 /// The words of a run with these numbers.
@@ -231,7 +369,7 @@ fn the_world_may_be_saved_over_itself(rt: HostRuntime) -> Result<(), Fail> {
 #[test]
 fn each_status_has_its_code(rt: HostRuntime) {
     let world_fault = WorldFault::Empty;
-    let script_fault = ScriptFault::Unbuilt;
+    let script_fault = ScriptFault::NoPlayer;
     for (status, code) in [
         (Status::Done, 0),
         (Status::Usage, 2),
@@ -245,6 +383,7 @@ fn each_status_has_its_code(rt: HostRuntime) {
             },
             6,
         ),
+        (Status::DuplicatePlayer { script: 2 }, 7),
         (Status::SaveFault, 9),
         (Status::PrintFault, 10),
         (Status::OutOfMemory, 11),
@@ -282,7 +421,7 @@ fn a_steady_outside_never_fails_a_run(rt: HostRuntime) -> Result<(), Fail> {
         (
             &world,
             "",
-            "ScriptRefused { script: 1, fault: Unbuilt }",
+            "ScriptRefused { script: 1, fault: NoPlayer }",
             OLD,
         ),
     ] {

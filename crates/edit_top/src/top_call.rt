@@ -1,8 +1,8 @@
 //! The top call.
 
-ghost use Rattle.std.specs.Prelude.{◌≡◌, ◌≤◌, [], ◌∷◌, length, map, string_bytes, IfOk, IfErr};
+ghost use Rattle.std.specs.Prelude.{◌≡◌, ◌≤◌, length, map, string_bytes, IfOk, IfErr, All};
 ghost use Rattle.run_ports.specs.Store.{IsLater};
-ghost use Rattle.edit_top.specs.Words.{names_view, asked_view};
+ghost use Rattle.edit_top.specs.Words.{names_view, asked_view, IsAskedWithin};
 ghost use Rattle.edit_top.specs.Reading.{world_limit, IsCause};
 ghost use Rattle.edit_top.specs.Ends.{Ends, IsGood, NothingFailed, IsDoneOrMemory, IsNoFailure};
 ghost use Rattle.edit_top.specs.Prepared.{IsMade, IsPrepared, Finishes};
@@ -11,12 +11,12 @@ ghost use Rattle.run_terms.specs.Workload.{workload_of};
 ghost use Rattle.run_terms.specs.Reply.{IsOutcome};
 ghost use Rattle.edit_terms.specs.Grid.{world_of};
 ghost use Rattle.sponge_schematic.specs.Read.{loaded_of, IsWritable};
-ghost use Rattle.command_syntax.specs.Plain.{IsPlainScript};
+ghost use Rattle.run_terms.specs.Limits.{IsScriptWithin};
 
-use crate::fold::run_scripts;
-use crate::loading::{load_script, load_world};
+use crate::loading::{load_scripts, load_world};
 use crate::outputs::{Output, save_all};
 use crate::run_text::run_text;
+use crate::running::run_scripts;
 use crate::status::Status;
 use crate::telling::{tell_fault, tell_usage};
 use crate::words::{Names, RunWords, Settings, asked_by};
@@ -28,7 +28,7 @@ use std::alloc::Global;
 use std::sync::Wait;
 use std::thread::Threads;
 
-/// Reads WORLD and SCRIPT, runs the script, saves the world as OUT and prints each command's reply.
+/// Reads WORLD and each SCRIPT, runs the scripts, saves the world as OUT and prints each command's reply.
 ///
 /// The words are those after the program's name. The runtime, the job hook and the number of workers
 /// serve the threads that later run the jobs.
@@ -100,40 +100,41 @@ pub(crate) struct Prepared<'a> {
     pub(crate) text: Vec<u8>,
 }
 
-/// Loads and reads the files, runs the script, and makes all that is to be saved and printed.
+/// Loads and reads the files, runs the scripts, and makes all that is to be saved and printed.
 fn prepare<'a, F: Shelf>(
     alloc: Global,
     words: &RunWords<'a>,
     shelf: &mut F,
 ) -> Result<Prepared<'a>, Status>
+    requires { IsAskedWithin (asked_view words.now) }
     ensures prepared { IfOk result (IsPrepared (asked_view words.now) (F.seen shelf.old).files) }
     ensures cause { IfErr result (IsCause (names_view words.now.names) (F.seen shelf.old) (F.seen shelf.new)) }
     ensures stays { (F.seen shelf.new).files ≡ (F.seen shelf.old).files }
     ensures later { IsLater (F.seen shelf.old) (F.seen shelf.new) }
 {
     let world = load_world(alloc, &words.names, shelf)?;
-    let script = load_script(alloc, &words.names, shelf)?;
-    match make(alloc, words, world, script) {
-        Err(Memory) => Err(Status::OutOfMemory),
-        Ok(prepared) => Ok(prepared),
-    }
+    let scripts = load_scripts(alloc, words.names.scripts, shelf)?;
+    let prepared = make(alloc, words, world, scripts)?;
+    Ok(prepared)
 }
 
-/// Runs the script over the world, and makes the file and the text.
+/// Runs the scripts over the world, and makes the file and the text.
 fn make<'a>(
     alloc: Global,
     words: &RunWords<'a>,
     world: World,
-    script: Script,
+    scripts: Vec<Script>,
 ) -> Result<Prepared<'a>, Memory>
+    requires asked { IsAskedWithin (asked_view words.now) }
+    requires count { length scripts.items ≡ length words.now.names.scripts.now }
+    requires within { All IsScriptWithin scripts.items }
     requires writable { IsWritable world.carried (world_of world.grid) }
     requires few { length world.carried.loose ≤ world_limit }
-    requires script { IsPlainScript script }
-    ensures { IfOk result (IsMade (asked_view words.now) (loaded_of world) script) }
+    ensures { IfOk result (IsMade (asked_view words.now) (loaded_of world) scripts.items) }
 {
     let World { grid, carried } = world;
     grid.area().well_formed();
-    let case = case_of(alloc, &words.settings, grid, script)?;
+    let case = case_of(&words.settings, grid, scripts);
     let outcome = run_scripts(alloc, &case)?;
     let text = text_of(alloc, &case, &outcome)?;
     drop(case);
@@ -147,21 +148,16 @@ fn make<'a>(
     Ok(Prepared { outputs, text })
 }
 
-/// The case of one script.
-fn case_of(
-    alloc: Global,
-    settings: &Settings,
-    opening: Grid,
-    script: Script,
-) -> Result<Case, Memory>
-    ensures { IfOk result (λ case. case ≡ record { opening = opening; scripts = script ∷ []; seed = settings.now.seed; depth = settings.now.depth }) }
+/// The case of these scripts.
+fn case_of(settings: &Settings, opening: Grid, scripts: Vec<Script>) -> Case
+    ensures { result ≡ record { opening = opening; scripts = scripts.items; seed = settings.now.seed; depth = settings.now.depth } }
 {
-    Ok(Case {
+    Case {
         opening,
-        scripts: Items::from_vec(vec![in alloc; script]?),
+        scripts: Items::from_vec(scripts),
         seed: settings.seed,
         depth: settings.depth,
-    })
+    }
 }
 
 /// The printed text of an outcome.

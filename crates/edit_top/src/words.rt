@@ -1,9 +1,9 @@
 //! The words that the program was called with.
 
-ghost use Rattle.std.specs.Prelude.{◌≡◌, ◌≤◌, map, string_bytes, option_map, if◌then◌else◌, Some, None, IfSome};
+ghost use Rattle.std.specs.Prelude.{◌≡◌, ◌≤◌, true, [], length, get_or, map, string_bytes, option_map, if◌then◌else◌, Some, None, IfSome};
 ghost use Rattle.std.specs.Char.{is_ascii_digit};
 ghost use Rattle.std.specs.List.{list_all};
-ghost use Rattle.edit_top.specs.Words.{asked_by, asked_view, asked_with, names_view, is_digits, is_between, number_of, seed_of, workers_of, depth_of};
+ghost use Rattle.edit_top.specs.Words.{asked_by, asked_view, IsAskedWithin, asked_with, names_view, is_digits, is_between, number_of, seed_of, workers_of, depth_of};
 ghost use Rattle.edit_top.specs.Status.{file_name};
 
 /// What the words of a run ask for.
@@ -13,12 +13,12 @@ pub(crate) struct RunWords<'a> {
     pub(crate) settings: Settings,
 }
 
-/// The files that a run names: the world to load, the file to save, and the script.
+/// The files that a run names: the world to load, the file to save, and the scripts.
 #[derive(Clone, Copy, Debug)]
 pub(crate) struct Names<'a> {
     pub(crate) world: &'a str,
     pub(crate) out: &'a str,
-    pub(crate) script: &'a str,
+    pub(crate) scripts: &'a [String],
 }
 
 /// The seed of random choices, how many workers run jobs, and how many edits a history keeps.
@@ -30,41 +30,58 @@ pub(crate) struct Settings {
 }
 
 impl Names<'_> {
-    /// The name of a file by its number: the world is 0, the script 1.
+    /// The name of a file by its number: the world is 0, and the scripts count from 1.
+    #[tactic(auto, using(crate::proofs::Scripts::file_name_script))]
     pub(crate) fn file(&self, number: u32) -> &[u8]
         ensures { result.now ≡ file_name (names_view self.now) number }
     {
         if number == 0 {
             self.world.as_bytes()
         } else {
-            self.script.as_bytes()
+            self.script(number - 1)
+        }
+    }
+
+    /// The name of a script by its place, from 0.
+    #[tactic(auto, using(crate::proofs::Scripts::name_there))]
+    fn script(&self, place: u32) -> &[u8]
+        ensures { result.now ≡ get_or (names_view self.now).scripts place [] }
+    {
+        match self.scripts.get(place as usize) {
+            None => b"",
+            Some(name) => name.as_bytes(),
         }
     }
 }
 
-/// What the words `run WORLD OUT SEED WORKERS DEPTH SCRIPT` ask for. None exactly for other words.
+/// What the words `run WORLD OUT SEED WORKERS DEPTH SCRIPT` with 1 to 64 words SCRIPT ask for. None exactly for
+/// other words.
 pub(crate) fn asked_by(words: &[String]) -> Option<RunWords<'_>>
-    ensures { option_map asked_view result ≡ asked_by (map string_bytes words.now) }
+    ensures words { option_map asked_view result ≡ asked_by (map string_bytes words.now) }
+    ensures within { IfSome result (λ asked. IsAskedWithin (asked_view asked)) }
 {
-    match words {
-        [call, world, out, seed, workers, depth, script] => {
-            if call.as_str() != "run" {
-                return None;
-            }
-            let names = Names {
-                world: world.as_str(),
-                out: out.as_str(),
-                script: script.as_str(),
-            };
-            asked_with(names, seed.as_str(), workers.as_str(), depth.as_str())
-        }
-        _ => None,
+    let [call, world, out, seed, workers, depth, scripts @ ..] = words else {
+        return None;
+    };
+    if call.as_str() != "run" {
+        return None;
     }
+    if scripts.is_empty() || scripts.len() > 64 {
+        return None;
+    }
+    let names = Names {
+        world: world.as_str(),
+        out: out.as_str(),
+        scripts,
+    };
+    asked_with(names, seed.as_str(), workers.as_str(), depth.as_str())
 }
 
 /// These files, and the numbers of the three words.
 fn asked_with<'a>(names: Names<'a>, seed: &str, workers: &str, depth: &str) -> Option<RunWords<'a>>
-    ensures { option_map asked_view result ≡ asked_with (names_view names.entry) (seed_of seed.now) (workers_of workers.now) (depth_of depth.now) }
+    requires { is_between 1 64 (length names.scripts.now) ≡ true }
+    ensures words { option_map asked_view result ≡ asked_with (names_view names.entry) (seed_of seed.now) (workers_of workers.now) (depth_of depth.now) }
+    ensures within { IfSome result (λ asked. IsAskedWithin (asked_view asked)) }
 {
     let seed = number_of(seed, 20, 0, u64::MAX)?;
     let workers = number_of(workers, 2, 1, 64)?;
@@ -83,6 +100,7 @@ fn asked_with<'a>(names: Names<'a>, seed: &str, workers: &str, depth: &str) -> O
 fn number_of(word: &str, most: usize, least: u64, greatest: u64) -> Option<u64>
     ensures number { result ≡ number_of most least greatest word.now }
     ensures few { IfSome result (λ n. n ≤ greatest) }
+    ensures within { IfSome result (λ n. is_between least greatest n ≡ true) }
 {
     if !is_digits(word.as_bytes(), most) {
         return None;
@@ -96,6 +114,7 @@ fn number_of(word: &str, most: usize, least: u64, greatest: u64) -> Option<u64>
 fn if_between(value: u64, least: u64, greatest: u64) -> Option<u64>
     ensures value { result ≡ (if is_between least greatest value then Some value else None) }
     ensures few { IfSome result (λ n. n ≤ greatest) }
+    ensures within { IfSome result (λ n. is_between least greatest n ≡ true) }
 {
     if least <= value && value <= greatest {
         Some(value)

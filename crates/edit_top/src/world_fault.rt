@@ -2,8 +2,9 @@
 
 ghost use Rattle.std.specs.Prelude.{◌≡◌, ◌∷◌, [], codes, decimal};
 ghost use Rattle.edit_top.specs.Ends.{IsTold};
-ghost use Rattle.edit_top.specs.Status.{nbt_text, state_text, world_text, world_line};
+ghost use Rattle.edit_top.specs.WorldFaultText.{nbt_text, state_text, world_text, world_line};
 
+use crate::state_fault::state_text;
 use crate::telling::tell;
 use block_state::StateFault;
 use itoa::Buffer;
@@ -57,7 +58,7 @@ fn tell_nbt_fault<K: Sink>(out: &mut K, fault: &NbtFault)
     }
 }
 
-#[tactic(auto, unfolding(crate::specs::Status::world_line))]
+#[tactic(auto, unfolding(crate::specs::WorldFaultText::world_line))]
 fn tell_words<K: Sink>(out: &mut K, words: &[u8])
     ensures { IsTold (K.seen out.old) (K.seen out.new) (world_line (words.now ∷ [])) }
 {
@@ -67,7 +68,7 @@ fn tell_words<K: Sink>(out: &mut K, words: &[u8])
     );
 }
 
-#[tactic(auto, unfolding(crate::specs::Status::world_line))]
+#[tactic(auto, unfolding(crate::specs::WorldFaultText::world_line))]
 fn tell_named<K: Sink>(out: &mut K, words: &[u8], name: &[u8])
     ensures { IsTold (K.seen out.old) (K.seen out.new) (world_line (words.now ∷ name.now ∷ [])) }
 {
@@ -83,7 +84,7 @@ fn tell_place<K: Sink>(out: &mut K, words: &[u8], place: u32)
     tell_named(out, words, Buffer::new().format(place).as_bytes());
 }
 
-#[tactic(auto, unfolding(crate::specs::Status::world_line))]
+#[tactic(auto, unfolding(crate::specs::WorldFaultText::world_line))]
 fn tell_counted<K: Sink>(out: &mut K, words: &[u8], count: u32, rest: &[u8])
     ensures { IsTold (K.seen out.old) (K.seen out.new) (world_line (words.now ∷ decimal count ∷ rest.now ∷ [])) }
 {
@@ -100,7 +101,7 @@ fn tell_counted<K: Sink>(out: &mut K, words: &[u8], count: u32, rest: &[u8])
 }
 
 /// Prints which palette entry is no block state.
-#[tactic(auto, unfolding(crate::specs::Status::world_line))]
+#[tactic(auto, unfolding(crate::specs::WorldFaultText::world_line))]
 fn tell_bad_state<K: Sink>(out: &mut K, index: u32, fault: &StateFault)
     ensures { IsTold (K.seen out.old) (K.seen out.new) (world_line (codes "palette entry " ∷ decimal index ∷ codes ": " ∷ state_text fault.now ∷ [])) }
 {
@@ -117,7 +118,7 @@ fn tell_bad_state<K: Sink>(out: &mut K, index: u32, fault: &StateFault)
 }
 
 /// Prints which block has a number that no palette entry has.
-#[tactic(auto, unfolding(crate::specs::Status::world_line))]
+#[tactic(auto, unfolding(crate::specs::WorldFaultText::world_line))]
 fn tell_bad_index<K: Sink>(out: &mut K, cell: u32, value: u32)
     ensures { IsTold (K.seen out.old) (K.seen out.new) (world_line (codes "cell " ∷ decimal cell ∷ codes ": no palette number " ∷ decimal value ∷ [])) }
 {
@@ -131,17 +132,4 @@ fn tell_bad_index<K: Sink>(out: &mut K, cell: u32, value: u32)
             b"\n".as_slice(),
         ],
     );
-}
-
-/// Why a text stands for no block state.
-fn state_text(fault: &StateFault) -> &'static [u8]
-    ensures { result.now ≡ state_text fault.now }
-{
-    match fault {
-        StateFault::BadName => b"bad name",
-        StateFault::BadProperty => b"bad property",
-        StateFault::RepeatedKey => b"repeated key",
-        StateFault::TooManyProperties => b"too many properties",
-        StateFault::Memory => b"memory",
-    }
 }

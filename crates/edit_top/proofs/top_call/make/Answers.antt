@@ -17,9 +17,9 @@ use Rattle.edit_top.proofs.top_call.make.Goals as goal
 pub write_world-requires : goal.write_world-requires
 write_world-requires c =
     let outcome = c.in_ok-outcome.outcome in
-    let start : Workload = workload (asked_view c.args.words.now) (loaded_of c.args.world) c.args.script in
-    let is_start : workload_of c.in_ok-case.case ≡ start = ap (λ (case : Case). workload_of case) c.in_ok-case.ensures in
-    let ran : IsOutcome start outcome = subst (λ (w : Workload). IsOutcome w outcome) is_start c.in_ok-outcome.ensures.outcome in
+    let start : Workload = workload (asked_view c.args.words.now) (loaded_of c.args.world) c.args.scripts.items in
+    let is_start : workload_of c.case_of-case.result ≡ start = ap (λ (case : Case). workload_of case) c.case_of-case.ensures in
+    let ran : IsOutcome start outcome = subst (λ (w : Workload). IsOutcome w outcome) is_start c.in_ok-outcome.ensures in
     let box : is_world_box c.args.world.grid.area ≡ true = subst (λ (a : Area). is_world_box a ≡ true) c.area.ensures c.well_formed-2.ensures in
     subst (λ (w : World). IsWritable c.args.world.carried w) (sym ran.world)
     (writable_after c.args.world.carried start outcome.order (grid_whole c.args.world.grid) (limits c.args.world.grid.area box).small c.requires.few c.requires.writable)
@@ -27,9 +27,9 @@ write_world-requires c =
 pub returns : goal.returns
 returns c =
     let outcome = c.in_ok-outcome.outcome in
-    let start : Workload = workload (asked_view c.args.words.now) (loaded_of c.args.world) c.args.script in
-    let is_start : workload_of c.in_ok-case.case ≡ start = ap (λ (case : Case). workload_of case) c.in_ok-case.ensures in
-    let ran : IsOutcome start outcome = subst (λ (w : Workload). IsOutcome w outcome) is_start c.in_ok-outcome.ensures.outcome in
+    let start : Workload = workload (asked_view c.args.words.now) (loaded_of c.args.world) c.args.scripts.items in
+    let is_start : workload_of c.case_of-case.result ≡ start = ap (λ (case : Case). workload_of case) c.case_of-case.ensures in
+    let ran : IsOutcome start outcome = subst (λ (w : Workload). IsOutcome w outcome) is_start c.in_ok-outcome.ensures in
     let listed : c.in_ok-outputs.outputs.items ≡ record { name = c.args.words.now.names.out; bytes = c.in_ok-bytes.bytes } ∷ [] = c.in_ok-outputs.ensures.items in
     record {
       order = outcome.order;
