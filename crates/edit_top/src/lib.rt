@@ -6,9 +6,15 @@
 #![tactic(auto)]
 
 #[cfg(test)]
+mod command_tests;
+#[cfg(test)]
 mod fixtures;
 mod loading;
 mod outputs;
+#[cfg(test)]
+mod players;
+#[cfg(test)]
+mod plot_tests;
 mod rounds;
 mod run_text;
 mod running;

@@ -166,6 +166,45 @@ fn faults_of_terms_are_told(rt: HostRuntime) -> Result<(), Fail> {
     Ok(())
 }
 
+/// Each fault of too much in a term has its message.
+#[test]
+fn limits_of_terms_are_told(rt: HostRuntime) -> Result<(), Fail> {
+    let alloc = rt.alloc();
+    let mut entries = String::from_str(alloc, "stone")?;
+    for _ in 0..32 {
+        entries.push_str(",stone")?;
+    }
+    let mut properties = String::from_str(alloc, "stone[k0=v")?;
+    for number in 1..17u8 {
+        properties.push_str(&format!(in alloc; ",k{number}=v")?)?;
+    }
+    properties.push_str("]")?;
+    for (line, fault, text) in [
+        ("//gmask %101", "Number { at: 0 }", "0: number"),
+        (
+            "//gmask \"%1 %2 %3 %4 %5\"",
+            "TooManyNoise { at: 12 }",
+            "12: too many noise terms",
+        ),
+        (
+            &format!(in alloc; "//set {entries}")?,
+            "TooManyEntries { at: 192 }",
+            "192: too many entries",
+        ),
+        (
+            &format!(in alloc; "//set {properties}")?,
+            "State { at: 0, fault: TooManyProperties }",
+            "0: too many properties",
+        ),
+    ] {
+        let script = format!(in alloc; "player anna\n{line}\n")?;
+        let fault = format!(in alloc; "Line {{ line: 2, fault: Term({fault}) }}")?;
+        let text = format!(in alloc; "line 2: term at {text}")?;
+        assert_script_refused(&rt, alloc, &script, &fault, &text)?;
+    }
+    Ok(())
+}
+
 #[test]
 fn failing_save_put_and_load(rt: HostRuntime) -> Result<(), Fail> {
     let alloc = rt.alloc();
