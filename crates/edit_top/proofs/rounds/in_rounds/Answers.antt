@@ -1,4 +1,4 @@
-use Rattle.std.proofs.Common.{◌≡◌, ℕ, ◌+◌, cond, ltb, length, min, ap, ◌∙◌, arith}
+use Rattle.std.proofs.Common.{ℕ, ◌+◌, cond, ltb, length, ap, ◌∙◌, arith}
 use Rattle.run_terms.specs.Order.{lines_of}
 use Rattle.edit_top.proofs.RoundLemmas.{min_more, few_lines}
 use Rattle.edit_top.proofs.rounds.in_rounds.Goals as goal
