@@ -1,5 +1,5 @@
 -- States and properties in a pattern, and what their faults say of it.
-use Rattle.std.proofs.Common.{true, false, cond, [], ◌∷◌, sym, ◌≡◌, ℕ, List, Ok, Err, refl, ap, ◌∙◌}
+use Rattle.std.proofs.Common.{true, false, cond, [], ◌∷◌, sym, ◌≡◌, ℕ, List, ◌++◌, Ok, Err, refl, ap, ◌∙◌}
 use Rattle.std.specs.Prelude.{Result, ◌==◌, ◌||◌}
 use Rattle.std.specs.List.{onto_first}
 use Rattle.edit_terms.specs.StateText.{State, TextFault, opening, cut_at, state_listed, state_in, state_reading, is_block_name, with_namespace, BadName}
