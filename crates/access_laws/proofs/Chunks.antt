@@ -16,11 +16,11 @@ use Rattle.access_laws.specs.Locality.{is_among}
 
 -- ---- lists of consecutive numbers
 
-or_second : (a b : Bool) → b ≡ true → (a || b) ≡ true
+pub or_second : (a b : Bool) → b ≡ true → (a || b) ≡ true
 or_second true b h = refl
 or_second false b h = h
 
-or_first : (a b : Bool) → a ≡ true → (a || b) ≡ true
+pub or_first : (a b : Bool) → a ≡ true → (a || b) ≡ true
 or_first true b h = refl
 or_first false b h = absurd cc
 
@@ -100,7 +100,7 @@ chunk_of_box area box p here there =
     any_of_range (λ index. eqb (chunk_of area (position_of shared index)) (chunk_of area p)) 0 (volume shared) (index_of shared p) (omega arith) (omega (arith, held_below shared p h))
     (ap (λ (q : Pos). eqb (chunk_of area q) (chunk_of area p)) (position_at_index shared p h) ∙ eq-eqb (chunk_of area p) (chunk_of area p) refl)
 
-some_box : (area : Area) (boxes : List Area) (p : Pos) → holds area p ≡ true → list_any (λ box. holds box p) boxes ≡ true → list_any (is_chunk_of_box area (chunk_of area p)) boxes ≡ true
+pub some_box : (area : Area) (boxes : List Area) (p : Pos) → holds area p ≡ true → list_any (λ box. holds box p) boxes ≡ true → list_any (is_chunk_of_box area (chunk_of area p)) boxes ≡ true
 some_box area [] p here there = absurd cc
 some_box area (box ∷ boxes) p here there = by_head (some_box area boxes p here) (holds box p) refl there
   where
