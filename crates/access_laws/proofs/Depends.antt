@@ -164,9 +164,9 @@ find_passes test (x ∷ xs) = by_head (find_passes test xs) (test x) refl
 -- ---- each work
 
 module _ (area : Area) (cs ds : List BlockContent) (seed s t : ℕ) (spec : Spec) (first second : CopiedBlocks) (same_copied : first ≡ second)
-  (before after : List (List Change)) (same_taken : before ≡ after) (alike : JobDrawsAlike seed s t spec)
-  (index : ℕ) (same_content : content_of (record { area = area; contents = cs }) index ≡ content_of (record { area = area; contents = ds }) index)
-  (same_column : (y : ℤ) → state_at (record { area = area; contents = cs }) (record (position_of area index) { y = y }) ≡ state_at (record { area = area; contents = ds }) (record (position_of area index) { y = y })) where
+    (before after : List (List Change)) (same_taken : before ≡ after) (alike : JobDrawsAlike seed s t spec)
+    (index : ℕ) (same_content : content_of (record { area = area; contents = cs }) index ≡ content_of (record { area = area; contents = ds }) index)
+    (same_column : (y : ℤ) → state_at (record { area = area; contents = cs }) (record (position_of area index) { y = y }) ≡ state_at (record { area = area; contents = ds }) (record (position_of area index) { y = y })) where
   abbrev w : World
   w = record { area = area; contents = cs }
 

@@ -3,3 +3,7 @@ pub mod Writes
 pub mod Depends
 pub mod Sessions
 pub mod Stays
+pub mod Agreement
+pub mod Still
+pub mod OneResult
+pub mod Results

@@ -120,7 +120,7 @@ source_of_ticket order player n t h =
     λ i. record { player = e i; step = number i }
 
 -- a part of an order has no more turns than the whole
-turns_of-take : (order : List ℕ) (player t : ℕ) → turns_of player (take t order) ≤ turns_of player order
+pub turns_of-take : (order : List ℕ) (player t : ℕ) → turns_of player (take t order) ≤ turns_of player order
 turns_of-take order player t =
     let parts : turns_of player order ≡ turns_of player (take t order) + turns_of player (drop t order) =
     ap (turns_of player) (sym (take-append-drop t order)) ∙ sum_by-append (λ (p : ℕ). cond (eqb p player) 1 0) (take t order) (drop t order) in

@@ -1,10 +1,12 @@
 -- Effects are local: a command changes the world only in the chunks that it writes, and what it makes of them depends
 -- only on the chunks that it accesses.
-use Rattle.std.specs.Prelude.{◌≡◌, ℕ, ◌<◌, ◌==◌, Bool, true, List, All}
+use Rattle.std.specs.Prelude.{◌≡◌, ℕ, ◌<◌, ◌==◌, Bool, true, List, All, IfSome}
 use Rattle.std.specs.List.{list_any}
 use Rattle.edit_terms.specs.declared.clip.Source.{Source}
 use Rattle.edit_terms.specs.declared.step.Step.TheVariants.{Job}
 use Rattle.edit_terms.specs.Area.{Area, position_of, volume, chunk_of}
+use Rattle.edit_terms.specs.declared.step.Spec.{Spec}
+use Rattle.edit_terms.specs.Clipboard.{clipboard_of}
 use Rattle.edit_terms.specs.World.{World}
 use Rattle.run_terms.specs.Workload.{Workload}
 use Rattle.run_terms.specs.Order.{step_of_command}
@@ -45,3 +47,9 @@ abbrev pub EffectsDependOnChunksAccessed : Workload → Source → Task → Worl
 EffectsDependOnChunksAccessed case id task w v =
     step_of_command case id ≡ Job task.spec → AreWorldsOf case w v → AgreeIn case.opening.area (chunks_read_by case id) w v → AgreeIn case.opening.area (chunks_written_by case id) w v
     → AgreeIn case.opening.area (chunks_written_by case id) (world_with task w) (world_with task v)
+
+-- The clipboard that a command's job names is the same from two worlds that agree on the chunks that the clipboard's copy
+-- read.
+abbrev pub ClipboardsDependOnChunksRead : Workload → Source → World → World → Type 0
+ClipboardsDependOnChunksRead case id w v =
+    (spec : Spec) → step_of_command case id ≡ Job spec → AreWorldsOf case w v → IfSome spec.clip (λ c. AgreeIn case.opening.area (chunks_read_by case c.source) w v → clipboard_of c w ≡ clipboard_of c v)

@@ -1,0 +1,22 @@
+//! Effects are local to chunks: a function that does nothing, whose clauses are the law.
+
+ghost use Rattle.std.specs.Prelude.{◌≡◌, true, List, ℕ};
+ghost use Rattle.edit_terms.specs.declared.clip.Source.{Source};
+ghost use Rattle.edit_terms.specs.Area.{is_world_box};
+ghost use Rattle.edit_terms.specs.World.{World};
+ghost use Rattle.run_terms.specs.Workload.{Workload};
+ghost use Rattle.run_terms.specs.Effect.{Task};
+ghost use Rattle.run_terms.specs.Limits.{IsWithinLimits};
+ghost use Rattle.access_laws.specs.Locality.{ChangesLieInChunksWritten, ClipboardsDependOnChunksRead, EffectsDependOnChunksAccessed};
+
+/// A ticket changes the world only in the chunks that its command writes; what it makes of them depends on the
+/// world only in the chunks that the command reads and writes, and a clipboard only in those that its copy read.
+#[tactic(auto, using(crate::proofs::Agreement::effects_depend, crate::proofs::Agreement::clipboards_depend))]
+pub fn effects_are_local()
+    ensures changes { (case : Workload) → IsWithinLimits case → is_world_box case.opening.area ≡ true →
+        (order : List ℕ) (ticket : ℕ) → ChangesLieInChunksWritten case order ticket }
+    ensures effects { (case : Workload) → IsWithinLimits case → (id : Source) (task : Task) (w v : World) →
+        EffectsDependOnChunksAccessed case id task w v }
+    ensures clipboards { (case : Workload) → IsWithinLimits case → (id : Source) (w v : World) →
+        ClipboardsDependOnChunksRead case id w v }
+{}
