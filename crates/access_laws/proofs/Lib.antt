@@ -5,5 +5,6 @@ pub mod Sessions
 pub mod Stays
 pub mod Agreement
 pub mod Still
-pub mod OneResult
+pub mod SameTurns
 pub mod Results
+pub mod Parts

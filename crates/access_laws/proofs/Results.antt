@@ -21,7 +21,7 @@ use Rattle.access_laws.specs.Locality.{is_among}
 use Rattle.access_laws.specs.OrderFree.{accesses, IsFreeOfOrder, OrderIsFree}
 use Rattle.access_laws.proofs.Writes.{or_parts}
 use Rattle.access_laws.proofs.Stays.{IsTicketOf, ticket_is_of, source_of_ticket, turns_of-take, stays}
-use Rattle.access_laws.proofs.OneResult.{turns_of-mine, turns_behind, same_changes, agree_at}
+use Rattle.access_laws.proofs.SameTurns.{turns_of-mine, turns_behind, same_changes, agree_at}
 
 -- ---- lists of consecutive numbers
 

@@ -36,6 +36,11 @@ AgreeIn area chunks w v = (index : ℕ) → index < volume area → is_in_chunks
 abbrev pub HaveSameParts : List ℕ → World → World → Type 0
 HaveSameParts chunks w v = (chunk : ℕ) → is_among chunks chunk ≡ true → chunk_part w chunk ≡ chunk_part v chunk
 
+-- the two say the same
+pub record IsAgreementByParts (area : Area) (chunks : List ℕ) (w v : World) : Type 0 where
+  pub parts : AgreeIn area chunks w v → HaveSameParts chunks w v
+  pub contents : HaveSameParts chunks w v → AgreeIn area chunks w v
+
 -- two worlds of the case's box
 pub record AreWorldsOf (case : Workload) (w v : World) : Type 0 where
   pub first : w.area ≡ case.opening.area

@@ -5,5 +5,5 @@
 mod locality;
 mod order_free;
 
-pub use locality::effects_are_local;
+pub use locality::{agreement_is_by_parts, effects_are_local};
 pub use order_free::order_is_free;

@@ -43,7 +43,7 @@ use Rattle.access_laws.proofs.Still.{job_still}
 turns_of-more : (order : List ℕ) (player t : ℕ) → t < length order → turns_of player (take (suc t) order) ≡ turns_of player (take t order) + cond (eqb (get_or order t 0) player) 1 0
 turns_of-more order player t inside =
     let next : suc t ≡ t + 1 = omega arith in
-    let f = λ (p : ℕ). cond (eqb p player) 1 0 in
+    let f : ℕ → ℕ = λ p. cond (eqb p player) 1 0 in
     let last : turns_of player (get_or order t 0 ∷ []) ≡ cond (eqb (get_or order t 0) player) 1 0 + 0 = sum_by-cons f (get_or order t 0) [] in
     let all : turns_of player (take (suc t) order) ≡ turns_of player (take t order) + turns_of player (get_or order t 0 ∷ []) =
     ap (λ (n : ℕ). turns_of player (take n order)) next ∙ ap (turns_of player) (take_more order t 0 inside) ∙ sum_by-append f (take t order) (get_or order t 0 ∷ []) in
