@@ -8,3 +8,5 @@ pub mod Still
 pub mod SameTurns
 pub mod Results
 pub mod Parts
+pub mod Scripts
+pub mod StillScripts

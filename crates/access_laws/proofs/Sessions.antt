@@ -1,14 +1,13 @@
 -- What a player's session holds within the limits: positions that fit 32 bits, the clipboard of a copy that read its
 -- selection's box, and a history of commands that take no edits themselves.
-use Rattle.std.proofs.Common.{◌≡◌, ℕ, zero, suc, ◌+◌, ◌-◌, ◌≤◌, true, ◌&&◌, List, [], ◌∷◌, ◌++◌, length, take, drop, ℤ, pos, negsuc, ◌+ℤ◌, ◌≤ℤ◌, get_or, Option, Some, None, refl, sym, ap, ◌∙◌, subst, inl, inr, arith}
+use Rattle.std.proofs.Common.{◌≡◌, ℕ, ◌-◌, true, ◌&&◌, List, [], ◌∷◌, ◌++◌, length, take, drop, ℤ, pos, negsuc, ◌+ℤ◌, ◌≤ℤ◌, Option, Some, None, refl, sym, ap, ◌∙◌, subst, arith}
 use Rattle.std.specs.Prelude.{All, IfSome, IsTrue, reverse, option_map, slice_get, FitsSigned}
 use Rattle.std.specs.Int.{w32}
 use Rattle.std.specs.Option.{option_map_or}
 use Rattle.std.proofs.lemmas.Int.{ints}
-use Rattle.std.proofs.lemmas.List.{length-take-le, take_more, take_all}
+use Rattle.std.proofs.lemmas.List.{length-take-le}
 use Rattle.std.proofs.lemmas.List.Elements.{All-nil, All-push, All-take, All-drop}
-use Rattle.std.proofs.lemmas.List.Sums.{fold-append}
-use Rattle.std.proofs.lemmas.Option.{slice_get_within, get_or_from_slice_get, slice_get_cases}
+use Rattle.std.proofs.lemmas.Option.{slice_get_within}
 use Rattle.edit_terms.specs.declared.pos.Pos.{Pos}
 use Rattle.edit_terms.specs.declared.region.Kind.{Kind}
 use Rattle.edit_terms.specs.declared.region.Selection.{Selection}
@@ -28,12 +27,13 @@ use Rattle.edit_terms.specs.Area.{is_from}
 use Rattle.edit_terms.specs.Frame.{IsPosition, IsSelection, frame_of_selection}
 use Rattle.edit_terms.specs.Transform.{then_turn, then_flip}
 use Rattle.edit_terms.proofs.AreaLemmas.{and_both}
-use Rattle.run_terms.specs.Session.{Session, opening_session, selection_from, selection_of, entered, refusal_of, work_of, job_of, resolved_command, clip_from, with_copy, with_command, counted, after_command, session_after, step_of_line}
+use Rattle.run_terms.specs.Session.{Session, selection_from, selection_of, entered, refusal_of, work_of, job_of, resolved_command, clip_from, with_copy, with_command, counted, after_command, step_of_line}
 use Rattle.run_terms.specs.Fold.{edits_taken, edits_taken_by}
 use Rattle.run_terms.specs.Limits.{is_position_within, is_command_within}
 use Rattle.run_terms.specs.Access.{boxes_read, boxes_read_by}
 use Rattle.run_terms.proofs.Lists.{All-reverse}
 use Rattle.run_terms.proofs.Earlier.{clip_of, session_has_taken}
+use Rattle.access_laws.proofs.Scripts.{line_has, session_at, step_is, kept_by_commands}
 use Rattle.access_laws.proofs.Writes.{HasPositions}
 
 -- ---- positions within the limits
@@ -204,52 +204,25 @@ module _ (player depth : ℕ) (lines : List Line) where
   -- ---- the whole script
 
   module _ (within : All (λ line. IsTrue (is_command_within line.command)) lines) where
-    -- the session before the command of this number
-    abbrev session_at : ℕ → Session
-    session_at n = session_after player depth (take n lines)
-
-    line_within : (n : ℕ) (line : Line) → slice_get lines n ≡ Some line → is_command_within line.command ≡ true
-    line_within n line is = by_entry (get_or_from_slice_get lines n line line is) (within n line (slice_get_within lines n line is))
+    session_sound : (n : ℕ) → IsSoundSession (session_at player depth lines n)
+    session_sound = kept_by_commands player depth lines IsSoundSession (record { first = tt; second = tt; clip = tt; edits = All-nil TakesNone }) keeps
       where
-        by_entry : get_or lines n line ≡ line → IsTrue (is_command_within (get_or lines n line).command) → is_command_within line.command ≡ true
-        by_entry e true_there = subst (λ (l : Line). is_command_within l.command ≡ true) e true_there
-
-    step_is : (n : ℕ) (line : Line) → slice_get lines n ≡ Some line → step_at n ≡ resolved_command (session_at n) line.command
-    step_is n line is = ap (λ (o : Option Line). option_map_or (λ l. resolved_command (session_at n) l.command) o Settled) is
-
-    counts : (n : ℕ) → n ≤ length lines → (session_at n).number ≡ n
-    counts n inside = (session_has_taken player depth (take n lines)).number ∙ length-take-le n lines inside
-
-    one_more : (n : ℕ) (line : Line) → slice_get lines n ≡ Some line → session_at (suc n) ≡ after_command (session_at n) line.command
-    one_more n line is =
-        let inside = slice_get_within lines n line is in
-        let next : n + 1 ≡ suc n = omega arith in
-        let all : take (suc n) lines ≡ take n lines ++ line ∷ [] =
-        ap (λ (k : ℕ). take k lines) (sym next) ∙ take_more lines n line inside ∙ ap (λ (l : Line). take n lines ++ l ∷ []) (get_or_from_slice_get lines n line line is) in
-        ap (λ (ls : List Line). session_after player depth ls) all ∙ fold-append (λ t l. after_command t l.command) (opening_session player depth) (take n lines) (line ∷ [])
-
-    session_sound : (n : ℕ) → IsSoundSession (session_at n)
-    session_sound zero = record { first = tt; second = tt; clip = tt; edits = All-nil TakesNone }
-    session_sound (suc n) = elim (slice_get_cases lines n).1 [
-      | inl found ↦
-          let line = found.0 in
-          let is = found.2 in
-          let s = session_at n in
-          let own = (session_has_taken player depth (take n lines)).remembers.own in
-          let step : step_at s.number ≡ resolved_command s line.command = ap (λ (k : ℕ). step_at k) (counts n (omega (arith, found.1))) ∙ step_is n line is in
-          subst (λ (t : Session). IsSoundSession t) (sym (one_more n line is)) (after_sound s own (session_sound n) line.command (line_within n line is) (refusal_of s line.command) step)
-      | inr past ↦
-          let over = past.0 in
-          subst (λ (t : Session). IsSoundSession t) (ap (λ (ls : List Line). session_after player depth ls) (take_all n lines over ∙ sym (take_all (suc n) lines (omega (arith, over))))) (session_sound n)
-    ]
+        keeps : (n : ℕ) (line : Line) → slice_get lines n ≡ Some line → IsSoundSession (session_at player depth lines n) → IsSoundSession (after_command (session_at player depth lines n) line.command)
+        keeps n line is h =
+            let s = session_at player depth lines n in
+            let inside = slice_get_within lines n line is in
+            let taken = session_has_taken player depth (take n lines) in
+            let counts : s.number ≡ n = taken.number ∙ length-take-le n lines (omega (arith, inside)) in
+            let step : step_at s.number ≡ resolved_command s line.command = ap (λ (k : ℕ). step_at k) counts ∙ step_is player depth lines n line is in
+            after_sound s taken.remembers.own h line.command (line_has (λ l. IsTrue (is_command_within l.command)) lines within n line is) (refusal_of s line.command) step
 
     -- what a command of a script within the limits needs is there
     pub step_is_sound : (n : ℕ) → IsSoundStep (step_of_line player depth lines n)
     step_is_sound n = by_line (slice_get lines n) refl
       where
-        by_line : (o : Option Line) → slice_get lines n ≡ o → IsSoundStep (option_map_or (λ line. resolved_command (session_at n) line.command) o Settled)
+        by_line : (o : Option Line) → slice_get lines n ≡ o → IsSoundStep (option_map_or (λ line. resolved_command (session_at player depth lines n) line.command) o Settled)
         by_line None is = record { positions = tt; clip = tt; taken = All-nil TakesNone }
         by_line (Some line) is =
-            let s = session_at n in
+            let s = session_at player depth lines n in
             let own = (session_has_taken player depth (take n lines)).remembers.own in
             step_sound s own (session_sound n) (refusal_of s line.command) (work_of s line.command) (work_fits s own (session_sound n) line.command) (work_takes s own (session_sound n) line.command)

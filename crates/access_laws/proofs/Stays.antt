@@ -2,7 +2,7 @@
 --
 -- A job changes only blocks of its boxes. An undo or a redo brings back changes of its edits' tickets, which are earlier:
 -- those lie in the edits' chunks, and these belong to the chunks that the undo or redo writes.
-use Rattle.std.proofs.Common.{◌≡◌, ℕ, zero, suc, ◌+◌, ◌<◌, ◌≤◌, eqb, Bool, true, false, cond, ◌&&◌, ◌||◌, List, [], ◌∷◌, length, map, take, drop, get_or, Option, Some, None, refl, sym, ap, ◌∙◌, subst, inl, inr, arith}
+use Rattle.std.proofs.Common.{◌≡◌, ℕ, zero, suc, ◌+◌, ◌<◌, ◌≤◌, eqb, Bool, true, false, cond, ◌&&◌, ◌||◌, List, [], ◌∷◌, length, map, take, drop, get_or, Option, Some, None, refl, sym, ap, ◌∙◌, subst, arith}
 use Rattle.std.specs.Prelude.{All, IfSome, IsTrue, reverse, flat_map}
 use Rattle.std.specs.List.{range_with_len, list_any, find}
 use Rattle.std.specs.Option.{option_map_or}
@@ -14,11 +14,8 @@ use Rattle.std.proofs.lemmas.List.Folds.{list_any-append, find-append}
 use Rattle.std.proofs.lemmas.List.FromFn.{get_or-map-range_with_len}
 use Rattle.std.proofs.lemmas.List.Sums.{sum_by-append}
 use Rattle.std.proofs.lemmas.Map.Views.{any-filter_same}
-use Rattle.std.proofs.lemmas.Option.{slice_get_cases}
 use Rattle.edit_terms.specs.declared.clip.Clip.{Clip}
 use Rattle.edit_terms.specs.declared.clip.Source.{Source}
-use Rattle.edit_terms.specs.declared.script.Line.{Line}
-use Rattle.edit_terms.specs.declared.script.Script.{Script}
 use Rattle.edit_terms.specs.declared.step.Work.{Work}
 use Rattle.edit_terms.specs.declared.step.Work.TheVariants.{Fill, Stack, Move, Copy, Cut, Paste, Put, Undo, Redo}
 use Rattle.edit_terms.specs.declared.step.Spec.{Spec}
@@ -45,6 +42,7 @@ use Rattle.run_terms.proofs.Tickets.{turns_of-cons}
 use Rattle.access_laws.specs.Locality.{is_among, is_in_chunks, ChangesLieInChunksWritten}
 use Rattle.access_laws.proofs.Chunks.{any_of_range, chunk_below, some_box}
 use Rattle.access_laws.proofs.Writes.{contra, or_parts, HasPositions, IsBounded, IsOfItself, stays_outside}
+use Rattle.access_laws.proofs.Scripts.{lines_all}
 use Rattle.access_laws.proofs.Sessions.{IsSoundClip, IsSoundStep, TakesNone, step_is_sound}
 
 -- ---- lists
@@ -129,13 +127,7 @@ turns_of-take order player t =
 -- ---- the commands of a case within the limits
 
 pub lines_within : (case : Workload) → IsWithinLimits case → (player : ℕ) → All (λ line. IsTrue (is_command_within line.command)) (lines_of case.scripts player)
-lines_within case limits player = elim (slice_get_cases case.scripts player).1 [
-  | inl found ↦
-      let script = found.0 in
-      subst (λ (o : Option Script). All (λ line. IsTrue (is_command_within line.command)) (option_map_or (λ (s : Script). s.lines) o [])) (sym found.2)
-      (subst (λ (s : Script). All (λ line. IsTrue (is_command_within line.command)) s.lines) found.3 (limits.each player script found.1).commands)
-  | inr past ↦ subst (λ (o : Option Script). All (λ line. IsTrue (is_command_within line.command)) (option_map_or (λ (s : Script). s.lines) o [])) (sym past.1) (All-nil (λ (line : Line). IsTrue (is_command_within line.command)))
-]
+lines_within case limits player = lines_all (λ line. IsTrue (is_command_within line.command)) case.scripts (λ k d within. (limits.each k d within).commands) player
 
 pub command_is_sound : (case : Workload) → IsWithinLimits case → (id : Source) → IsSoundStep id.player case.depth (lines_of case.scripts id.player) (step_of_command case id)
 command_is_sound case limits id = step_is_sound id.player case.depth (lines_of case.scripts id.player) (lines_within case limits id.player) id.step

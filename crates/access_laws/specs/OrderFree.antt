@@ -1,11 +1,14 @@
 -- The serial order doesn't matter where no two players' commands access a common chunk and nothing is drawn by ticket.
-use Rattle.std.specs.Prelude.{◌≡◌, ℕ, ◌<◌, ◌==◌, nat_le, Bool, true, ◌&&◌, ◌||◌, List, length}
+use Rattle.std.specs.Prelude.{◌≡◌, ℕ, ◌<◌, ◌==◌, nat_le, Bool, true, ◌&&◌, ◌||◌, List, length, All}
 use Rattle.std.specs.List.{list_all}
 use Rattle.std.specs.Option.{option_map_or}
 use Rattle.edit_terms.specs.declared.clip.Source.{Source}
 use Rattle.edit_terms.specs.declared.mask.Mask.{Mask}
 use Rattle.edit_terms.specs.declared.mask.Term.{Term}
 use Rattle.edit_terms.specs.declared.pattern.Pattern.{Pattern}
+use Rattle.edit_terms.specs.declared.script.Command.{Command}
+use Rattle.edit_terms.specs.declared.script.Command.TheVariants.{Set, Walls, Faces, Replace, Sphere, Cyl, Gmask}
+use Rattle.edit_terms.specs.declared.script.Script.{Script}
 use Rattle.edit_terms.specs.declared.step.Work.{Work}
 use Rattle.edit_terms.specs.declared.step.Work.TheVariants.{Fill}
 use Rattle.edit_terms.specs.declared.step.Step.{Step}
@@ -34,6 +37,21 @@ is_work_still _ = true
 abbrev pub is_still : Step → Bool
 is_still (Job spec) = option_map_or is_free_of_noise spec.global true && is_work_still spec.work
 is_still _ = true
+
+-- the command's mask, or the global mask that it sets, has no noise leaf, and its pattern no choice
+abbrev pub is_command_still : Command → Bool
+is_command_still (Set pattern) = is_without_choice pattern
+is_command_still (Walls pattern) = is_without_choice pattern
+is_command_still (Faces pattern) = is_without_choice pattern
+is_command_still (Replace mask pattern) = is_free_of_noise mask && is_without_choice pattern
+is_command_still (Sphere pattern radius hollow) = is_without_choice pattern
+is_command_still (Cyl pattern radius height hollow) = is_without_choice pattern
+is_command_still (Gmask mask) = option_map_or is_free_of_noise mask true
+is_command_still _ = true
+
+-- the commands of all scripts are so
+abbrev pub AreScriptsStill : List Script → Type 0
+AreScriptsStill scripts = All (λ script. All (λ line. is_command_still line.command ≡ true) script.lines) scripts
 
 -- the command reads or writes the chunk
 abbrev pub accesses : Workload → Source → ℕ → Bool

@@ -6,4 +6,4 @@ mod locality;
 mod order_free;
 
 pub use locality::{agreement_is_by_parts, effects_are_local};
-pub use order_free::order_is_free;
+pub use order_free::{order_is_free, still_scripts_draw_nothing};

@@ -1,4 +1,4 @@
-//! Effects are local to chunks: a function that does nothing, whose clauses are the law.
+//! Effects are local to chunks: laws, each the clauses of a function that does nothing.
 
 ghost use Rattle.std.specs.Prelude.{◌≡◌, true, List, ℕ};
 ghost use Rattle.edit_terms.specs.declared.clip.Source.{Source};
