@@ -10,3 +10,4 @@ pub mod Results
 pub mod Parts
 pub mod Scripts
 pub mod StillScripts
+pub mod Outcomes

@@ -1,10 +1,11 @@
 -- The serial order doesn't matter where no two players' commands access a common chunk and nothing is drawn by ticket.
-use Rattle.std.specs.Prelude.{◌≡◌, ℕ, ◌<◌, ◌==◌, nat_le, Bool, true, ◌&&◌, ◌||◌, List, length, All}
+use Rattle.std.specs.Prelude.{◌≡◌, ℕ, ◌<◌, ◌==◌, nat_le, Bool, true, ◌&&◌, ◌||◌, List, length, All, slice_get}
 use Rattle.std.specs.List.{list_all}
 use Rattle.std.specs.Option.{option_map_or}
 use Rattle.edit_terms.specs.declared.clip.Source.{Source}
 use Rattle.edit_terms.specs.declared.mask.Mask.{Mask}
 use Rattle.edit_terms.specs.declared.mask.Term.{Term}
+use Rattle.edit_terms.specs.declared.outcome.Outcome.{Outcome}
 use Rattle.edit_terms.specs.declared.pattern.Pattern.{Pattern}
 use Rattle.edit_terms.specs.declared.script.Command.{Command}
 use Rattle.edit_terms.specs.declared.script.Command.TheVariants.{Set, Walls, Faces, Replace, Sphere, Cyl, Gmask}
@@ -13,6 +14,7 @@ use Rattle.edit_terms.specs.declared.step.Work.{Work}
 use Rattle.edit_terms.specs.declared.step.Work.TheVariants.{Fill}
 use Rattle.edit_terms.specs.declared.step.Step.{Step}
 use Rattle.edit_terms.specs.declared.step.Step.TheVariants.{Job}
+use Rattle.edit_terms.specs.Grid.{world_of}
 use Rattle.edit_terms.specs.Mask.{noise_leaves}
 use Rattle.run_terms.specs.Workload.{Workload}
 use Rattle.run_terms.specs.Order.{IsWholeOrder, lines_of, ticket_of, step_of_command}
@@ -71,3 +73,9 @@ pub record HaveSameResults (case : Workload) (first second : List ℕ) : Type 0 
 -- whatever the whole order, the results are the same
 abbrev pub OrderIsFree : Workload → Type 0
 OrderIsFree case = (first second : List ℕ) → IsWholeOrder case.scripts first → IsWholeOrder case.scripts second → HaveSameResults case first second
+
+-- each command has the same reply in both outcomes, and their worlds are the same
+pub record DifferInOrderAlone (case : Workload) (first second : Outcome) : Type 0 where
+  pub replies : (id : Source) → id.step < length (lines_of case.scripts id.player)
+      → slice_get first.replies (ticket_of first.order id) ≡ slice_get second.replies (ticket_of second.order id)
+  pub world : world_of first.world ≡ world_of second.world

@@ -6,4 +6,4 @@ mod locality;
 mod order_free;
 
 pub use locality::{agreement_is_by_parts, effects_are_local};
-pub use order_free::{order_is_free, still_scripts_draw_nothing};
+pub use order_free::{order_is_free, outcomes_differ_in_order_alone, still_scripts_draw_nothing};
