@@ -11,3 +11,4 @@ pub mod Parts
 pub mod Scripts
 pub mod StillScripts
 pub mod Outcomes
+mod FreeExamples

@@ -53,7 +53,7 @@ none_pass test [] none = All-nil (λ x. test x ≡ false)
 none_pass test (x ∷ xs) none = let parts = or_parts (test x) (list_any test xs) none in All-cons (λ y. test y ≡ false) x xs parts.0 (none_pass test xs parts.1)
 
 -- a test of some item of lists joined
-any_joined : {X Y : Type 0} (test : Y → Bool) (f : X → List Y) (xs : List X) → list_any test (flat_map f xs) ≡ list_any (λ x. list_any test (f x)) xs
+pub any_joined : {X Y : Type 0} (test : Y → Bool) (f : X → List Y) (xs : List X) → list_any test (flat_map f xs) ≡ list_any (λ x. list_any test (f x)) xs
 any_joined test f [] = refl
 any_joined test f (x ∷ xs) = ap (list_any test) (flat_map-cons f x xs) ∙ list_any-append test (f x) (flat_map f xs) ∙ ap (λ (b : Bool). list_any test (f x) || b) (any_joined test f xs)
 
