@@ -24,7 +24,7 @@ pub fn order_is_free()
         IsFreeOfOrder case → OrderIsFree case }
 {}
 
-/// Two outcomes of such a case differ at most in their orders.
+/// Two outcomes of such a case have the same world and the same reply to each command, whatever their orders.
 pub fn outcomes_differ_in_order_alone()
     ensures { (case : Workload) → IsWithinLimits case → is_world_box case.opening.area ≡ true → IsWorld case.opening →
         IsFreeOfOrder case → (first second : Outcome) → IsOutcome case first → IsOutcome case second →
