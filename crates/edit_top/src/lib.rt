@@ -8,6 +8,7 @@
 #[cfg(test)]
 mod fixtures;
 mod loading;
+mod order_laws;
 mod outputs;
 mod rounds;
 mod run_text;
@@ -25,5 +26,6 @@ mod world_fault;
 mod world_tests;
 
 pub use memory::Memory;
+pub use order_laws::printed_order_is_unique;
 pub use status::Status;
 pub use top_call::run;
