@@ -1,19 +1,23 @@
 -- Good words and files end well: each cause of a refusal contradicts them.
 use Rattle.std.proofs.Common.{◌≡◌, ℕ, zero, suc, ◌<◌, ◌≤◌, true, false, List, [], length, take, get_or, Option, Some, None, Result, Ok, Err, refl, sym, ap, ◌∙◌, subst, arith}
 use Rattle.std.specs.Prelude.{IfSome, IsSomeAnd}
-use Rattle.std.proofs.lemmas.List.{ext_get_or, get_or-take, length-take-le}
+use Rattle.std.proofs.lemmas.List.{ext_get_or, get_or-take, length-take-le, take_all}
 use Rattle.edit_terms.specs.declared.script.Script.{Script}
 use Rattle.run_ports.specs.Count.{Rose}
 use Rattle.run_ports.specs.Store.{Files, StoreState, IsLater, IsTooLong}
 use Rattle.run_ports.specs.Output.{OutputState}
 use Rattle.edit_top.specs.declared.status.Status.{Status}
-use Rattle.edit_top.specs.declared.status.Status.TheVariants.{Done, Usage, ReadFault, TooLong, WorldRefused, ScriptRefused, DuplicatePlayer, SaveFault, PrintFault, OutOfMemory}
+use Rattle.edit_top.specs.declared.status.Status.TheVariants.{Done, Usage, ReadFault, TooLong, WorldRefused, ScriptRefused, DuplicatePlayer, TooManyJobs, SaveFault, PrintFault, OutOfMemory}
 use Rattle.edit_top.specs.Words.{Asked, FileNames, asked_by}
+use Rattle.run_terms.specs.Access.{accesses_of}
+use Rattle.command_plan.specs.Plan.{most_jobs}
+use Rattle.sponge_schematic.specs.declared.fault.WorldFault.{WorldFault}
+use Rattle.sponge_schematic.specs.Carried.{Loaded}
 use Rattle.sponge_schematic.specs.Schematic.{schematic_of}
 use Rattle.command_syntax.specs.declared.fault.ScriptFault.{ScriptFault}
 use Rattle.command_syntax.specs.Script.{script_of_bytes}
-use Rattle.edit_top.specs.Reading.{HasFile, HasScript, has_player, AreScripts, AreAllScripts, world_limit, script_limit, IsNoScript, IsRepeated, IsScriptCause, IsLaterCause, IsCause}
-use Rattle.edit_top.specs.Ends.{Ends, IsStopped, IsGood, NothingFailed, IsDoneOrMemory}
+use Rattle.edit_top.specs.Reading.{HasFile, HasWorld, HasScript, has_player, AreScripts, AreAllScripts, world_limit, script_limit, IsNoScript, IsRepeated, IsScriptCause, IsLaterCause}
+use Rattle.edit_top.specs.Ends.{workload, Ends, IsStopped, IsStopCause, IsTooMuch, IsGood, NothingFailed, IsDoneOrMemory}
 use Rattle.edit_top.proofs.Messages.{rose_since}
 use Rattle.edit_top.proofs.Saving.{later_then}
 
@@ -103,6 +107,7 @@ no_script_cause told files names all earlier before between after tells good rea
         (subst (λ (f : Option Files). IsNoScript f (get_or names (length earlier) []) fault) same cause))
     by_status (DuplicatePlayer number) cause =
         absurd (not_repeated told files names all earlier tells good read left (subst (λ (f : Option Files). IsRepeated f (get_or names (length earlier) []) earlier) same cause))
+    by_status (TooManyJobs jobs) cause = absurd cause
     by_status SaveFault cause = absurd cause
     by_status PrintFault cause = absurd cause
     by_status OutOfMemory cause = tt
@@ -116,6 +121,32 @@ no_later_cause told files names all before after tells same good steady status c
     no_script_cause told files names.scripts all stop.earlier before stop.between after tells good (subst (λ (f : Option Files). AreScripts f names.scripts stop.earlier) mid stop.read) stop.left (stop.stays ∙ mid)
     (later_then before cause.between stop.between cause.later stop.later) steady status stop.cause
 
+-- a told file is one world
+same_world : (told : Option Files) (files : Files) (names : FileNames) (a b : Loaded) → told ≡ Some files → HasWorld told names a → HasWorld told names b → a ≡ b
+same_world told files names a b tells has had =
+    both_hold told files names.world (λ bytes. (length bytes ≤ world_limit) × (schematic_of bytes ≡ Ok a)) (λ bytes. (length bytes ≤ world_limit) × (schematic_of bytes ≡ Ok b)) tells has had
+    (λ bytes p q. ok_inside (sym p.1 ∙ q.1))
+  where
+    ok_inside : (◌≡◌ {A = Result Loaded WorldFault} (Ok a) (Ok b)) → a ≡ b
+    ok_inside h = cc
+
+-- told files are one list of scripts
+same_scripts : (told : Option Files) (files : Files) (names : List (List ℕ)) (some all : List Script) → told ≡ Some files → AreAllScripts told names some → AreAllScripts told names all → some ≡ all
+same_scripts told files names some all tells has had =
+    let d : Script = record { player = []; lines = [] } in
+    let long : length some ≡ length all = has.count ∙ sym had.count in
+    same_front told files names some all d tells has.read had.read (omega (arith, long)) ∙ take_all (length some) all (omega (arith, long))
+
+-- good words and files aren't too much for a plan
+not_too_much : (asked : Asked) (told : Option Files) (files : Files) (loaded : Loaded) (scripts : List Script) (jobs : ℕ) → told ≡ Some files → HasWorld told asked.names loaded
+    → AreAllScripts told asked.names.scripts scripts → accesses_of (workload asked loaded scripts) ≤ most_jobs → IsTooMuch asked told jobs → ⊥
+not_too_much asked told files loaded scripts jobs tells world read few cause =
+    let world_is : cause.loaded ≡ loaded = same_world told files asked.names cause.loaded loaded tells cause.world world in
+    let scripts_are : cause.scripts ≡ scripts = same_scripts told files asked.names.scripts cause.scripts scripts tells cause.read read in
+    let sum : jobs ≡ accesses_of (workload asked loaded scripts) =
+    cause.all ∙ ap (λ (l : Loaded). accesses_of (workload asked l cause.scripts)) world_is ∙ ap (λ (ss : List Script). accesses_of (workload asked loaded ss)) scripts_are in
+    omega (arith, few, cause.many, sum)
+
 -- Good words and files end well where nothing outside fails.
 pub ends_well : (words : List (List ℕ)) (before after : StoreState) (shown told : OutputState) (status : Status) → Ends words before after shown told status → IsGood words before.files
     → NothingFailed before after shown told → IsDoneOrMemory status
@@ -127,13 +158,13 @@ ends_well words before after shown told status ends good steady = by_status stat
         inside : (◌≡◌ {A = Option Asked} (Some asked) (Some good.asked)) → asked ≡ good.asked
         inside h = cc
 
-    cause_here : (status : Status) (stop : IsStopped words before after shown told status) → IsCause good.asked.names before after status
-    cause_here status stop = subst (λ (a : Asked). IsCause a.names before after status) (same_asked stop.asked stop.are) stop.cause
+    cause_here : (status : Status) (stop : IsStopped words before after shown told status) → IsStopCause good.asked before after status
+    cause_here status stop = subst (λ (a : Asked). IsStopCause a before after status) (same_asked stop.asked stop.are) stop.cause
 
     later_here : (status : Status) → IsLaterCause good.asked.names before after status → IsDoneOrMemory status
     later_here status cause = no_later_cause before.files good.files good.asked.names good.scripts before after good.tells refl good.read steady.loads status cause
 
-    by_cause : (status : Status) → IsCause good.asked.names before after status → IsDoneOrMemory status
+    by_cause : (status : Status) → IsStopCause good.asked before after status → IsDoneOrMemory status
     by_cause Done cause = absurd cause
     by_cause Usage cause = absurd cause
     by_cause (ReadFault zero) cause = absurd (steady.loads good.asked.names.world cause)
@@ -144,6 +175,7 @@ ends_well words before after shown told status ends good steady = by_status stat
     by_cause (WorldRefused fault) cause = absurd (not_refused before.files good.files good.asked.names.world world_limit schematic_of good.loaded fault good.tells good.world cause)
     by_cause (ScriptRefused script fault) cause = later_here (ScriptRefused script fault) cause
     by_cause (DuplicatePlayer script) cause = later_here (DuplicatePlayer script) cause
+    by_cause (TooManyJobs jobs) cause = absurd (not_too_much good.asked before.files good.files good.loaded good.scripts jobs good.tells good.world good.read good.few cause)
     by_cause SaveFault cause = absurd cause
     by_cause PrintFault cause = absurd cause
     by_cause OutOfMemory cause = tt
@@ -159,6 +191,7 @@ ends_well words before after shown told status ends good steady = by_status stat
     by_status (WorldRefused fault) ends = by_cause (WorldRefused fault) (cause_here (WorldRefused fault) ends)
     by_status (ScriptRefused script fault) ends = by_cause (ScriptRefused script fault) (cause_here (ScriptRefused script fault) ends)
     by_status (DuplicatePlayer script) ends = by_cause (DuplicatePlayer script) (cause_here (DuplicatePlayer script) ends)
+    by_status (TooManyJobs jobs) ends = by_cause (TooManyJobs jobs) (cause_here (TooManyJobs jobs) ends)
     by_status SaveFault ends = absurd (steady.saves ends.run.asked.names.out ends.rose)
     by_status PrintFault ends = absurd (steady.puts ends.rose)
     by_status OutOfMemory ends = tt

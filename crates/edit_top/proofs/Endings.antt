@@ -6,10 +6,10 @@ use Rattle.run_ports.specs.Store.{Files, StoreState, IsLater, IsSaved, IsTorn}
 use Rattle.run_ports.specs.Output.{OutputState, IsAppended, IsPartlyAppended}
 use Rattle.edit_top.specs.declared.top_call.Prepared.{Prepared}
 use Rattle.edit_top.specs.declared.status.Status.{Status}
-use Rattle.edit_top.specs.declared.status.Status.TheVariants.{Done, Usage, ReadFault, TooLong, WorldRefused, ScriptRefused, DuplicatePlayer, SaveFault, PrintFault, OutOfMemory}
+use Rattle.edit_top.specs.declared.status.Status.TheVariants.{Done, Usage, ReadFault, TooLong, WorldRefused, ScriptRefused, DuplicatePlayer, TooManyJobs, SaveFault, PrintFault, OutOfMemory}
 use Rattle.edit_top.specs.Words.{Asked, asked_by}
 use Rattle.edit_top.specs.Outputs.{output_view, AreSaved, StopsSaving}
-use Rattle.edit_top.specs.Ends.{workload, IsRunOf, IsTold, saved_file, Ends}
+use Rattle.edit_top.specs.Ends.{workload, IsRunOf, IsTold, saved_file, IsStopCause, Ends}
 use Rattle.edit_top.specs.RunText.{run_text}
 use Rattle.edit_top.specs.ShownOrder.{order_shown}
 use Rattle.edit_top.specs.Reading.{IsCause}
@@ -33,6 +33,7 @@ prepared_run words asked told prepared are made = record {
   scripts = made.scripts;
   world = made.world;
   read = made.read;
+  few = made.made.few;
   order = made.made.order;
   legal = made.made.legal;
   whole = made.made.whole;
@@ -95,11 +96,12 @@ module _ (words : List (List ℕ)) (asked : Asked) (are : asked_by words ≡ Som
   ends_finished (WorldRefused fault) f = absurd f
   ends_finished (ScriptRefused script fault) f = absurd f
   ends_finished (DuplicatePlayer script) f = absurd f
+  ends_finished (TooManyJobs jobs) f = absurd f
   ends_finished OutOfMemory f = absurd f
 
 -- a run that stopped before its save ends so
 pub ends_stopped : (words : List (List ℕ)) (asked : Asked) (before after : StoreState) (shown told : OutputState) (status : Status) → asked_by words ≡ Some asked
-    → IsCause asked.names before after status → after.files ≡ before.files → IsTold shown told (fault_text asked.names status) → Ends words before after shown told status
+    → IsStopCause asked before after status → after.files ≡ before.files → IsTold shown told (fault_text asked.names status) → Ends words before after shown told status
 ends_stopped words asked before after shown told Done are cause stays message = absurd cause
 ends_stopped words asked before after shown told Usage are cause stays message = absurd cause
 ends_stopped words asked before after shown told SaveFault are cause stays message = absurd cause
@@ -109,4 +111,5 @@ ends_stopped words asked before after shown told (TooLong file) are cause stays 
 ends_stopped words asked before after shown told (WorldRefused fault) are cause stays message = record { asked = asked; are = are; cause = cause; stays = stays; message = message }
 ends_stopped words asked before after shown told (ScriptRefused script fault) are cause stays message = record { asked = asked; are = are; cause = cause; stays = stays; message = message }
 ends_stopped words asked before after shown told (DuplicatePlayer script) are cause stays message = record { asked = asked; are = are; cause = cause; stays = stays; message = message }
+ends_stopped words asked before after shown told (TooManyJobs jobs) are cause stays message = record { asked = asked; are = are; cause = cause; stays = stays; message = message }
 ends_stopped words asked before after shown told OutOfMemory are cause stays message = record { asked = asked; are = are; cause = cause; stays = stays; message = message }

@@ -13,7 +13,7 @@ use Rattle.command_syntax.specs.declared.fault.ScriptFault.TheVariants as faults
 use Rattle.command_syntax.specs.Read.{Tells}
 use Rattle.command_syntax.specs.Script.{script_of_bytes}
 use Rattle.edit_top.specs.declared.status.Status.{Status}
-use Rattle.edit_top.specs.declared.status.Status.TheVariants.{Done, Usage, ReadFault, TooLong, WorldRefused, ScriptRefused, DuplicatePlayer, SaveFault, PrintFault, OutOfMemory}
+use Rattle.edit_top.specs.declared.status.Status.TheVariants.{Done, Usage, ReadFault, TooLong, WorldRefused, ScriptRefused, DuplicatePlayer, TooManyJobs, SaveFault, PrintFault, OutOfMemory}
 use Rattle.edit_top.specs.Words.{FileNames}
 use Rattle.edit_top.specs.Status.{file_name}
 use Rattle.edit_top.specs.Reading.{HasScript, script_limit, has_player, AreScripts, IsNoScript, refusal, IsLoadCause, IsScriptCause, IsOfScript, StopsAtScript}
@@ -81,6 +81,7 @@ stops_run name earlier before after (TooLong file) cause = cause
 stops_run name earlier before after (WorldRefused fault) cause = cause
 stops_run name earlier before after (ScriptRefused script fault) cause = cause
 stops_run name earlier before after (DuplicatePlayer script) cause = absurd cause
+stops_run name earlier before after (TooManyJobs jobs) cause = cause
 stops_run name earlier before after SaveFault cause = cause
 stops_run name earlier before after PrintFault cause = cause
 stops_run name earlier before after OutOfMemory cause = cause

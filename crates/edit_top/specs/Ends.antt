@@ -1,16 +1,18 @@
 -- The end-to-end theorem: what stands after each ending of a run, and why it came.
-use Rattle.std.specs.Prelude.{◌≡◌, ℕ, ◌≤◌, ◌⊎◌, List, length, take, Option, Some, None}
+use Rattle.std.specs.Prelude.{◌≡◌, ℕ, ◌<◌, ◌≤◌, ◌⊎◌, List, length, take, Option, Some, None}
 use Rattle.edit_terms.specs.declared.script.Script.{Script}
 use Rattle.run_terms.specs.Workload.{Workload}
+use Rattle.run_terms.specs.Access.{accesses_of}
 use Rattle.run_terms.specs.Order.{IsLegalOrder, IsWholeOrder}
 use Rattle.run_terms.specs.Reply.{final_world}
 use Rattle.run_ports.specs.Count.{Rose}
 use Rattle.run_ports.specs.Store.{Files, StoreState, IsSaved, IsTorn}
 use Rattle.run_ports.specs.Output.{OutputState, IsAppended, IsPartlyAppended}
+use Rattle.command_plan.specs.Plan.{most_jobs}
 use Rattle.sponge_schematic.specs.Carried.{Loaded}
 use Rattle.sponge_schematic.specs.File.{schematic_bytes}
 use Rattle.edit_top.specs.declared.status.Status.{Status}
-use Rattle.edit_top.specs.declared.status.Status.TheVariants.{Done, Usage, ReadFault, TooLong, WorldRefused, ScriptRefused, DuplicatePlayer, SaveFault, PrintFault, OutOfMemory}
+use Rattle.edit_top.specs.declared.status.Status.TheVariants.{Done, Usage, ReadFault, TooLong, WorldRefused, ScriptRefused, DuplicatePlayer, TooManyJobs, SaveFault, PrintFault, OutOfMemory}
 use Rattle.edit_top.specs.Words.{Asked, asked_by}
 use Rattle.edit_top.specs.Status.{fault_text, usage_text}
 use Rattle.edit_top.specs.RunText.{run_text}
@@ -21,7 +23,8 @@ use Rattle.edit_top.specs.Reading.{HasWorld, AreAllScripts, IsCause}
 abbrev pub workload : Asked → Loaded → List Script → Workload
 workload asked loaded scripts = record { opening = loaded.world; scripts = scripts; seed = asked.seed; depth = asked.depth }
 
--- A run of these words over these files: the world and the scripts that were read, in the order of the words, and one
+-- A run of these words over these files: the world and the scripts that were read, in the order of the words, whose
+-- commands access chunks at most as often as a run may, and one
 -- order of all commands, which is the order that its text shows. So no other order has the same text.
 pub record IsRunOf (words : List (List ℕ)) (told : Option Files) : Type 0 where
   pub asked : Asked
@@ -30,6 +33,7 @@ pub record IsRunOf (words : List (List ℕ)) (told : Option Files) : Type 0 wher
   pub scripts : List Script
   pub world : HasWorld told asked.names loaded
   pub read : AreAllScripts told asked.names.scripts scripts
+  pub few : accesses_of (workload asked loaded scripts) ≤ most_jobs
   pub order : List ℕ
   pub legal : IsLegalOrder scripts order
   pub whole : IsWholeOrder scripts order
@@ -77,11 +81,25 @@ pub record IsMisused (words : List (List ℕ)) (before after : StoreState) (show
   pub stays : after.files ≡ before.files
   pub message : IsTold shown told usage_text
 
+-- the world and the scripts were read, and their commands access chunks so often, more than a run may
+pub record IsTooMuch (asked : Asked) (told : Option Files) (jobs : ℕ) : Type 0 where
+  pub loaded : Loaded
+  pub scripts : List Script
+  pub world : HasWorld told asked.names loaded
+  pub read : AreAllScripts told asked.names.scripts scripts
+  pub all : jobs ≡ accesses_of (workload asked loaded scripts)
+  pub many : most_jobs < jobs
+
+-- why a run stopped before it saved: at reading, or as it would have too many jobs
+abbrev pub IsStopCause : Asked → StoreState → StoreState → Status → Type 0
+IsStopCause asked before after (TooManyJobs jobs) = IsTooMuch asked before.files jobs
+IsStopCause asked before after status = IsCause asked.names before after status
+
 -- a refusal before the save: it has its cause, and the files are as before
 pub record IsStopped (words : List (List ℕ)) (before after : StoreState) (shown told : OutputState) (status : Status) : Type 0 where
   pub asked : Asked
   pub are : asked_by words ≡ Some asked
-  pub cause : IsCause asked.names before after status
+  pub cause : IsStopCause asked before after status
   pub stays : after.files ≡ before.files
   pub message : IsTold shown told (fault_text asked.names status)
 
@@ -96,6 +114,7 @@ Ends words before after shown told (TooLong file) = IsStopped words before after
 Ends words before after shown told (WorldRefused fault) = IsStopped words before after shown told (WorldRefused fault)
 Ends words before after shown told (ScriptRefused script fault) = IsStopped words before after shown told (ScriptRefused script fault)
 Ends words before after shown told (DuplicatePlayer script) = IsStopped words before after shown told (DuplicatePlayer script)
+Ends words before after shown told (TooManyJobs jobs) = IsStopped words before after shown told (TooManyJobs jobs)
 Ends words before after shown told OutOfMemory = IsStopped words before after shown told OutOfMemory
 
 -- Nothing outside failed: no count of failures rose, of loads of the world and the scripts, of saves of OUT, and of the
@@ -112,7 +131,8 @@ IsNoFailure SaveFault = ⊥
 IsNoFailure PrintFault = ⊥
 IsNoFailure _ = Unit {0}
 
--- Good words over told files that hold a world and scripts of distinct players, each within its limit.
+-- Good words over told files that hold a world and scripts of distinct players, each within its limit, whose commands
+-- access chunks at most as often as a run may.
 pub record IsGood (words : List (List ℕ)) (told : Option Files) : Type 0 where
   pub files : Files
   pub tells : told ≡ Some files
@@ -122,6 +142,7 @@ pub record IsGood (words : List (List ℕ)) (told : Option Files) : Type 0 where
   pub world : HasWorld told asked.names loaded
   pub scripts : List Script
   pub read : AreAllScripts told asked.names.scripts scripts
+  pub few : accesses_of (workload asked loaded scripts) ≤ most_jobs
 
 -- the run ended well, or an allocation was refused
 abbrev pub IsDoneOrMemory : Status → Type 0

@@ -1,17 +1,20 @@
 -- What a run has made before its first save, and what it does with it.
-use Rattle.std.specs.Prelude.{◌≡◌, ℕ, List, [], ◌∷◌, map, Option, true, All}
+use Rattle.std.specs.Prelude.{◌≡◌, ◌≤◌, ℕ, List, [], ◌∷◌, map, Option, true, All}
 use Rattle.edit_terms.specs.declared.script.Script.{Script}
 use Rattle.run_terms.specs.Order.{IsLegalOrder, IsWholeOrder}
+use Rattle.run_terms.specs.Access.{accesses_of}
 use Rattle.run_terms.specs.Reply.{final_world}
 use Rattle.run_ports.specs.Count.{Rose}
 use Rattle.run_ports.specs.Store.{Files, StoreState}
 use Rattle.run_ports.specs.Output.{OutputState, IsAppended, IsPartlyAppended}
+use Rattle.command_plan.specs.Plan.{most_jobs, HasTooMany}
+use Rattle.run_terms.specs.Workload.{Workload}
 use Rattle.sponge_schematic.specs.Carried.{Loaded}
 use Rattle.sponge_schematic.specs.File.{schematic_bytes}
 use Rattle.command_syntax.specs.Player.{is_player_name}
 use Rattle.edit_top.specs.declared.top_call.Prepared.{Prepared}
 use Rattle.edit_top.specs.declared.status.Status.{Status}
-use Rattle.edit_top.specs.declared.status.Status.TheVariants.{Done, SaveFault, PrintFault}
+use Rattle.edit_top.specs.declared.status.Status.TheVariants.{Done, TooManyJobs, SaveFault, PrintFault, OutOfMemory}
 use Rattle.edit_top.specs.Words.{FileNames, Asked}
 use Rattle.edit_top.specs.Status.{fault_text}
 use Rattle.edit_top.specs.RunText.{run_text}
@@ -21,11 +24,18 @@ use Rattle.edit_top.specs.Ends.{workload, IsTold}
 
 -- the file and the text of one order of the scripts' commands over a world
 pub record IsMade (asked : Asked) (loaded : Loaded) (scripts : List Script) (prepared : Prepared) : Type 0 where
+  pub few : accesses_of (workload asked loaded scripts) ≤ most_jobs
   pub order : List ℕ
   pub legal : IsLegalOrder scripts order
   pub whole : IsWholeOrder scripts order
   pub outputs : map output_view prepared.outputs.items ≡ (asked.names.out, schematic_bytes loaded.carried (final_world (workload asked loaded scripts) order)) ∷ []
   pub text : prepared.text.items ≡ run_text (workload asked loaded scripts) order
+
+-- why nothing was made of a workload: it would have too many jobs, or an allocation was refused
+abbrev pub IsMakeCause : Workload → Status → Type 0
+IsMakeCause case (TooManyJobs jobs) = HasTooMany case jobs
+IsMakeCause case OutOfMemory = Unit {0}
+IsMakeCause case _ = ⊥
 
 -- the same of the world and the scripts that were read, whose players have names of letters, digits and _
 pub record IsPrepared (asked : Asked) (told : Option Files) (prepared : Prepared) : Type 0 where

@@ -227,3 +227,27 @@ fn first_script_fault_is_reported(rt: HostRuntime) -> Result<(), Fail> {
         .run(&rt, alloc)?
         .assert_is(&rt, alloc, status, text, OLD)
 }
+
+/// 1,681 chunks, all of them filled 9,998 times, are too many jobs.
+#[test]
+fn too_many_jobs_are_refused(rt: HostRuntime) -> Result<(), Fail> {
+    let alloc = rt.alloc();
+    let data = vec![in alloc; 0u8; 430_336]?;
+    let built = Built {
+        sizes: [656, 1, 656],
+        least: [0, 0, 0],
+        names: &["minecraft:air"],
+        data: &data,
+        more: b"",
+    };
+    let world = built.file(alloc)?;
+    let mut script = String::from_str(alloc, "player anna\n//pos1 0,0,0\n//pos2 655,0,655\n")?;
+    for _ in 0..9_998 {
+        script.push_str("//set stone\n")?;
+    }
+    let status = "TooManyJobs { jobs: 16806638 }";
+    let text = "fault: too many jobs: 16806638\n";
+    Outside::steady(&world, &script)
+        .run(&rt, alloc)?
+        .assert_is(&rt, alloc, status, text, OLD)
+}

@@ -12,6 +12,7 @@ mod fixtures;
 mod loading;
 mod order_laws;
 mod outputs;
+mod planning;
 #[cfg(test)]
 mod players;
 #[cfg(test)]

@@ -25,6 +25,8 @@ pub enum Status {
     ScriptRefused { script: u32, fault: ScriptFault },
     /// A script's player stands in an earlier script.
     DuplicatePlayer { script: u32 },
+    /// The commands read and write chunks more often than a run may.
+    TooManyJobs { jobs: u64 },
     /// The world can't be saved.
     SaveFault,
     /// The text can't be put.
@@ -48,6 +50,7 @@ impl Status {
             Status::WorldRefused { .. } => 5,
             Status::ScriptRefused { .. } => 6,
             Status::DuplicatePlayer { .. } => 7,
+            Status::TooManyJobs { .. } => 8,
             Status::SaveFault => 9,
             Status::PrintFault => 10,
             Status::OutOfMemory => 11,

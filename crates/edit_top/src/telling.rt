@@ -9,6 +9,7 @@ use crate::script_fault::tell_script_fault;
 use crate::status::Status;
 use crate::words::Names;
 use crate::world_fault::tell_world_fault;
+use itoa::Buffer;
 use run_ports::Sink;
 
 /// Prints the message where the words aren't of the form.
@@ -41,6 +42,10 @@ pub(crate) fn tell_fault<K: Sink>(out: &mut K, names: &Names<'_>, status: &Statu
         Status::DuplicatePlayer { script } => {
             let name = names.file(*script);
             tell_about(out, b"fault: script ", name, b": player already used\n");
+        }
+        Status::TooManyJobs { jobs } => {
+            let mut number = Buffer::new();
+            tell_about(out, b"fault: too many jobs: ", number.format(*jobs).as_bytes(), b"\n");
         }
         Status::SaveFault => {
             tell_about(out, b"fault: cannot save ", names.out.as_bytes(), b"\n");

@@ -423,6 +423,7 @@ fn each_status_has_its_code(rt: HostRuntime) {
             6,
         ),
         (Status::DuplicatePlayer { script: 2 }, 7),
+        (Status::TooManyJobs { jobs: 16_777_217 }, 8),
         (Status::SaveFault, 9),
         (Status::PrintFault, 10),
         (Status::OutOfMemory, 11),

@@ -3,9 +3,9 @@
 ghost use Rattle.std.specs.Prelude.{◌≡◌, ◌≤◌, length, map, string_bytes, IfOk, IfErr, All};
 ghost use Rattle.run_ports.specs.Store.{IsLater};
 ghost use Rattle.edit_top.specs.Words.{names_view, asked_view, IsAskedWithin};
-ghost use Rattle.edit_top.specs.Reading.{world_limit, IsCause};
-ghost use Rattle.edit_top.specs.Ends.{Ends, IsGood, NothingFailed, IsDoneOrMemory, IsNoFailure};
-ghost use Rattle.edit_top.specs.Prepared.{IsMade, IsPrepared, Finishes};
+ghost use Rattle.edit_top.specs.Reading.{world_limit};
+ghost use Rattle.edit_top.specs.Ends.{workload, Ends, IsStopCause, IsGood, NothingFailed, IsDoneOrMemory, IsNoFailure};
+ghost use Rattle.edit_top.specs.Prepared.{IsMade, IsMakeCause, IsPrepared, Finishes};
 ghost use Rattle.edit_top.specs.RunText.{run_text};
 ghost use Rattle.run_terms.specs.Workload.{workload_of};
 ghost use Rattle.run_terms.specs.Reply.{IsOutcome};
@@ -15,6 +15,7 @@ ghost use Rattle.run_terms.specs.Limits.{IsScriptWithin};
 
 use crate::loading::{load_scripts, load_world};
 use crate::outputs::{Output, save_all};
+use crate::planning::plan;
 use crate::run_text::run_text;
 use crate::running::run_scripts;
 use crate::status::Status;
@@ -100,7 +101,7 @@ pub(crate) struct Prepared<'a> {
     pub(crate) text: Vec<u8>,
 }
 
-/// Loads and reads the files, runs the scripts, and makes all that is to be saved and printed.
+/// Loads and reads the files, plans and runs the scripts, and makes all that is to be saved and printed.
 fn prepare<'a, F: Shelf>(
     alloc: Global,
     words: &RunWords<'a>,
@@ -108,7 +109,7 @@ fn prepare<'a, F: Shelf>(
 ) -> Result<Prepared<'a>, Status>
     requires { IsAskedWithin (asked_view words.now) }
     ensures prepared { IfOk result (IsPrepared (asked_view words.now) (F.seen shelf.old).files) }
-    ensures cause { IfErr result (IsCause (names_view words.now.names) (F.seen shelf.old) (F.seen shelf.new)) }
+    ensures cause { IfErr result (IsStopCause (asked_view words.now) (F.seen shelf.old) (F.seen shelf.new)) }
     ensures stays { (F.seen shelf.new).files ≡ (F.seen shelf.old).files }
     ensures later { IsLater (F.seen shelf.old) (F.seen shelf.new) }
 {
@@ -118,23 +119,25 @@ fn prepare<'a, F: Shelf>(
     Ok(prepared)
 }
 
-/// Runs the scripts over the world, and makes the file and the text.
+/// Plans and runs the scripts over the world, and makes the file and the text.
 fn make<'a>(
     alloc: Global,
     words: &RunWords<'a>,
     world: World,
     scripts: Vec<Script>,
-) -> Result<Prepared<'a>, Memory>
+) -> Result<Prepared<'a>, Status>
     requires asked { IsAskedWithin (asked_view words.now) }
     requires count { length scripts.items ≡ length words.now.names.scripts.now }
     requires within { All IsScriptWithin scripts.items }
     requires writable { IsWritable world.carried (world_of world.grid) }
     requires few { length world.carried.loose ≤ world_limit }
-    ensures { IfOk result (IsMade (asked_view words.now) (loaded_of world) scripts.items) }
+    ensures made { IfOk result (IsMade (asked_view words.now) (loaded_of world) scripts.items) }
+    ensures cause { IfErr result (IsMakeCause (workload (asked_view words.now) (loaded_of world) scripts.items)) }
 {
     let World { grid, carried } = world;
     grid.area().well_formed();
     let case = case_of(&words.settings, grid, scripts);
+    plan(alloc, &case)?;
     let outcome = run_scripts(alloc, &case)?;
     let text = text_of(alloc, &case, &outcome)?;
     drop(case);
