@@ -1,5 +1,6 @@
 -- How the parts of a run make its ending.
 use Rattle.std.proofs.Common.{◌≡◌, ℕ, List, [], ◌∷◌, ◌++◌, map, Option, Some, None, subst}
+use Rattle.run_terms.specs.Reply.{replies_of}
 use Rattle.run_ports.specs.Count.{Rose}
 use Rattle.run_ports.specs.Store.{Files, StoreState, IsLater, IsSaved, IsTorn}
 use Rattle.run_ports.specs.Output.{OutputState, IsAppended, IsPartlyAppended}
@@ -8,11 +9,20 @@ use Rattle.edit_top.specs.declared.status.Status.{Status}
 use Rattle.edit_top.specs.declared.status.Status.TheVariants.{Done, Usage, ReadFault, TooLong, WorldRefused, ScriptRefused, DuplicatePlayer, SaveFault, PrintFault, OutOfMemory}
 use Rattle.edit_top.specs.Words.{Asked, asked_by}
 use Rattle.edit_top.specs.Outputs.{output_view, AreSaved, StopsSaving}
-use Rattle.edit_top.specs.Ends.{IsRunOf, IsTold, saved_file, Ends}
+use Rattle.edit_top.specs.Ends.{workload, IsRunOf, IsTold, saved_file, Ends}
+use Rattle.edit_top.specs.RunText.{run_text}
+use Rattle.edit_top.specs.ShownOrder.{order_shown}
 use Rattle.edit_top.specs.Reading.{IsCause}
 use Rattle.edit_top.specs.Status.{fault_text}
 use Rattle.edit_top.specs.Prepared.{IsPrepared, Finishes}
 use Rattle.edit_top.proofs.Messages.{rose_since}
+use Rattle.edit_top.proofs.ShownOrder.{order_shown-text_of_order}
+
+-- the text of the order that was prepared shows it
+shown_by : (asked : Asked) (told : Option Files) (prepared : Prepared) (made : IsPrepared asked told prepared)
+    → order_shown made.scripts (run_text (workload asked made.loaded made.scripts) made.made.order) ≡ made.made.order
+shown_by asked told prepared made =
+    order_shown-text_of_order made.scripts (record { named = made.named; distinct = made.read.read.distinct }) made.made.order (replies_of (workload asked made.loaded made.scripts) made.made.order) made.made.legal
 
 -- the run that was prepared
 abbrev prepared_run : (words : List (List ℕ)) (asked : Asked) (told : Option Files) (prepared : Prepared) → asked_by words ≡ Some asked → IsPrepared asked told prepared → IsRunOf words told
@@ -26,6 +36,7 @@ prepared_run words asked told prepared are made = record {
   order = made.made.order;
   legal = made.made.legal;
   whole = made.made.whole;
+  shown = shown_by asked told prepared made;
 }
 
 -- one file alone is saved

@@ -8,3 +8,7 @@ pub mod Scripts
 pub mod ScriptFaults
 pub mod Completeness
 pub mod RoundLemmas
+pub mod Pieces
+pub mod PlayerNames
+pub mod ReadNames
+pub mod ShownOrder

@@ -14,6 +14,7 @@ use Rattle.edit_top.specs.declared.status.Status.TheVariants.{Done, Usage, ReadF
 use Rattle.edit_top.specs.Words.{Asked, asked_by}
 use Rattle.edit_top.specs.Status.{fault_text, usage_text}
 use Rattle.edit_top.specs.RunText.{run_text}
+use Rattle.edit_top.specs.ShownOrder.{order_shown}
 use Rattle.edit_top.specs.Reading.{HasWorld, AreAllScripts, IsCause}
 
 -- the workload of a world and scripts, with the seed and the depth of the words
@@ -21,7 +22,7 @@ abbrev pub workload : Asked → Loaded → List Script → Workload
 workload asked loaded scripts = record { opening = loaded.world; scripts = scripts; seed = asked.seed; depth = asked.depth }
 
 -- A run of these words over these files: the world and the scripts that were read, in the order of the words, and one
--- order of all commands.
+-- order of all commands, which is the order that its text shows. So no other order has the same text.
 pub record IsRunOf (words : List (List ℕ)) (told : Option Files) : Type 0 where
   pub asked : Asked
   pub are : asked_by words ≡ Some asked
@@ -32,6 +33,7 @@ pub record IsRunOf (words : List (List ℕ)) (told : Option Files) : Type 0 wher
   pub order : List ℕ
   pub legal : IsLegalOrder scripts order
   pub whole : IsWholeOrder scripts order
+  pub shown : order_shown scripts (run_text (workload asked loaded scripts) order) ≡ order
 
 module _ {words : List (List ℕ)} {told : Option Files} where
   -- the file of the world that the order leaves

@@ -7,3 +7,4 @@ pub mod Reading
 pub mod Outputs
 pub mod Ends
 pub mod Prepared
+pub mod ShownOrder

@@ -1,5 +1,5 @@
 -- What a run has made before its first save, and what it does with it.
-use Rattle.std.specs.Prelude.{◌≡◌, ℕ, List, [], ◌∷◌, map, Option}
+use Rattle.std.specs.Prelude.{◌≡◌, ℕ, List, [], ◌∷◌, map, Option, true, All}
 use Rattle.edit_terms.specs.declared.script.Script.{Script}
 use Rattle.run_terms.specs.Order.{IsLegalOrder, IsWholeOrder}
 use Rattle.run_terms.specs.Reply.{final_world}
@@ -8,6 +8,7 @@ use Rattle.run_ports.specs.Store.{Files, StoreState}
 use Rattle.run_ports.specs.Output.{OutputState, IsAppended, IsPartlyAppended}
 use Rattle.sponge_schematic.specs.Carried.{Loaded}
 use Rattle.sponge_schematic.specs.File.{schematic_bytes}
+use Rattle.command_syntax.specs.Player.{is_player_name}
 use Rattle.edit_top.specs.declared.top_call.Prepared.{Prepared}
 use Rattle.edit_top.specs.declared.status.Status.{Status}
 use Rattle.edit_top.specs.declared.status.Status.TheVariants.{Done, SaveFault, PrintFault}
@@ -26,12 +27,13 @@ pub record IsMade (asked : Asked) (loaded : Loaded) (scripts : List Script) (pre
   pub outputs : map output_view prepared.outputs.items ≡ (asked.names.out, schematic_bytes loaded.carried (final_world (workload asked loaded scripts) order)) ∷ []
   pub text : prepared.text.items ≡ run_text (workload asked loaded scripts) order
 
--- the same of the world and the scripts that were read
+-- the same of the world and the scripts that were read, whose players have names of letters, digits and _
 pub record IsPrepared (asked : Asked) (told : Option Files) (prepared : Prepared) : Type 0 where
   pub loaded : Loaded
   pub scripts : List Script
   pub world : HasWorld told asked.names loaded
   pub read : AreAllScripts told asked.names.scripts scripts
+  pub named : All (λ script. is_player_name script.player ≡ true) scripts
   pub made : IsMade asked loaded scripts prepared
 
 -- all is saved and the whole text is put

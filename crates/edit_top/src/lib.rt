@@ -10,6 +10,7 @@ mod command_tests;
 #[cfg(test)]
 mod fixtures;
 mod loading;
+mod order_laws;
 mod outputs;
 #[cfg(test)]
 mod players;
@@ -31,5 +32,6 @@ mod world_fault;
 mod world_tests;
 
 pub use memory::Memory;
+pub use order_laws::printed_order_is_unique;
 pub use status::Status;
 pub use top_call::run;

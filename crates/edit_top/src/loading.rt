@@ -1,10 +1,11 @@
 //! Loads and reads the files of a run.
 
-ghost use Rattle.std.specs.Prelude.{◌≡◌, suc, ◌≤◌, ◌<◌, false, length, map, string_bytes, IfOk, IfErr, All};
+ghost use Rattle.std.specs.Prelude.{◌≡◌, suc, ◌≤◌, ◌<◌, true, false, length, map, string_bytes, IfOk, IfErr, All};
 ghost use Rattle.run_ports.specs.Store.{IsLater};
 ghost use Rattle.edit_terms.specs.Grid.{world_of};
 ghost use Rattle.sponge_schematic.specs.Read.{loaded_of, IsWritable};
 ghost use Rattle.run_terms.specs.Limits.{IsScriptWithin};
+ghost use Rattle.command_syntax.specs.Player.{is_player_name};
 ghost use Rattle.edit_top.specs.Words.{names_view};
 ghost use Rattle.edit_top.specs.Reading.{world_limit, HasWorld, HasScript, has_player, AreAllScripts, IsWorldCause, refusal, IsLoadCause, IsScriptCause, IsOfScript, StopsAtScript};
 
@@ -55,6 +56,7 @@ pub(crate) fn load_scripts<F: Shelf>(
     requires few { length names.now ≤ 64 }
     ensures scripts { IfOk result (λ scripts. AreAllScripts (F.seen shelf.old).files (map string_bytes names.now) scripts.items) }
     ensures within { IfOk result (λ scripts. All IsScriptWithin scripts.items) }
+    ensures named { IfOk result (λ scripts. All (λ script. is_player_name script.player ≡ true) scripts.items) }
     ensures cause { IfErr result (StopsAtScript (map string_bytes names.now) (F.seen shelf.old) (F.seen shelf.new)) }
     ensures stays { (F.seen shelf.new).files ≡ (F.seen shelf.old).files }
     ensures later { IsLater (F.seen shelf.old) (F.seen shelf.new) }
@@ -77,6 +79,7 @@ fn load_script<F: Shelf>(
     requires few { length earlier.now < 64 }
     ensures script { IfOk result (λ script. HasScript (F.seen shelf.old).files name.now script) }
     ensures within { IfOk result IsScriptWithin }
+    ensures named { IfOk result (λ script. is_player_name script.player ≡ true) }
     ensures new { IfOk result (λ script. has_player earlier.now script.player ≡ false) }
     ensures cause { IfErr result (IsScriptCause name.now earlier.now (F.seen shelf.old) (F.seen shelf.new)) }
     ensures number { IfErr result (IsOfScript (suc (length earlier.now))) }
@@ -100,6 +103,7 @@ fn load_numbered<F: Shelf>(
 ) -> Result<Script, Status>
     ensures script { IfOk result (λ script. HasScript (F.seen shelf.old).files name.now script) }
     ensures within { IfOk result IsScriptWithin }
+    ensures named { IfOk result (λ script. is_player_name script.player ≡ true) }
     ensures cause { IfErr result (IsLoadCause name.now (F.seen shelf.old) (F.seen shelf.new)) }
     ensures number { IfErr result (IsOfScript number) }
     ensures stays { (F.seen shelf.new).files ≡ (F.seen shelf.old).files }

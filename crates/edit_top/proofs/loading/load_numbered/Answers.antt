@@ -3,8 +3,12 @@ use Rattle.command_syntax.specs.Read.{Tells}
 use Rattle.command_syntax.specs.Script.{script_of_bytes}
 use Rattle.edit_top.specs.declared.status.Status.{Status}
 use Rattle.edit_top.specs.Reading.{IsLoadCause}
+use Rattle.edit_top.proofs.ReadNames.{named_by_bytes}
 use Rattle.edit_top.proofs.Scripts.{refusal_stops}
 use Rattle.edit_top.proofs.loading.load_numbered.Goals as goal
+
+pub returns-in-Ok-read_script-clause-named : goal.returns-in-Ok-read_script-clause-named
+returns-in-Ok-read_script-clause-named g c = named_by_bytes c.deref.result.now c.in-Ok-read_script.script c.in-Ok-read_script.ensures.read
 
 pub returns-clause-cause : goal.returns-clause-cause
 returns-clause-cause g c =

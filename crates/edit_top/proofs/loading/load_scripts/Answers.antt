@@ -1,10 +1,12 @@
-use Rattle.std.proofs.Common.{◌≡◌, ℕ, Global, suc, ◌<◌, ◌+◌, ◌∷◌, [], ◌++◌, false, List, Option, length, map, get_or, ap, sym, subst, ◌∙◌, arith}
+use Rattle.std.proofs.Common.{◌≡◌, ℕ, Global, suc, ◌<◌, ◌+◌, ◌∷◌, [], ◌++◌, true, false, List, Option, length, map, get_or, ap, sym, subst, ◌∙◌, arith}
 use Rattle.std.specs.Prelude.{All}
 use Rattle.std.specs.String.{string_bytes}
 use Rattle.std.proofs.lemmas.List.{length-append, length-map}
+use Rattle.std.proofs.lemmas.List.Elements.{All-push}
 use Rattle.edit_terms.specs.declared.script.Script.{Script}
 use Rattle.run_ports.specs.Store.{Files}
 use Rattle.run_terms.specs.Limits.{IsScriptWithin}
+use Rattle.command_syntax.specs.Player.{is_player_name}
 use Rattle.edit_top.specs.declared.status.Status.{Status}
 use Rattle.edit_top.specs.declared.status.Status.TheVariants.{OutOfMemory}
 use Rattle.edit_top.specs.Reading.{HasScript, has_player, AreScripts, IsOfScript, IsScriptCause, StopsAtScript}
@@ -60,6 +62,8 @@ loop-name-preserved g c =
       count = ap length items ∙ length-append scripts (script ∷ []) ∙ ap (λ (n : ℕ). n + 1) c.loop-name.invariant.count;
       read = subst (λ (ss : List Script). AreScripts before.files names ss) (sym items) (read_then before.files names scripts script c.loop-name.invariant.read has new);
       within = subst (λ (ss : List Script). All IsScriptWithin ss) (sym items) (within_then scripts script c.loop-name.invariant.within c.in_ok-script.ensures.within);
+      named = subst (λ (ss : List Script). All (λ (s : Script). is_player_name s.player ≡ true) ss) (sym items)
+          (All-push (λ (s : Script). is_player_name s.player ≡ true) scripts script c.loop-name.invariant.named c.in_ok-script.ensures.named);
       stays = c.in_ok-script.ensures.stays ∙ c.loop-name.invariant.stays;
       later = later_then before mid after c.loop-name.invariant.later c.in_ok-script.ensures.later;
     }

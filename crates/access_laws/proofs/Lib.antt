@@ -1,0 +1,14 @@
+pub mod Chunks
+pub mod Writes
+pub mod Depends
+pub mod Sessions
+pub mod Stays
+pub mod Agreement
+pub mod Still
+pub mod SameTurns
+pub mod Results
+pub mod Parts
+pub mod Scripts
+pub mod StillScripts
+pub mod Outcomes
+mod FreeExamples
