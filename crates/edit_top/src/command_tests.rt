@@ -25,7 +25,8 @@ fn assert_leaves(
 
 /// A list of one chest, with the spelling of its place in the box.
 fn one_chest(alloc: Global, place: &[u8]) -> Result<Vec<u8>, Fail> {
-    let list = b"\x09\x00\x0DBlockEntities\x0A\x00\x00\x00\x01\x08\x00\x02Id\x00\x0Fminecraft:chest";
+    let list =
+        b"\x09\x00\x0DBlockEntities\x0A\x00\x00\x00\x01\x08\x00\x02Id\x00\x0Fminecraft:chest";
     Ok(joined(
         alloc,
         &[list, b"\x0B\x00\x03Pos\x00\x00\x00\x03", place, b"\x00"],
@@ -58,11 +59,7 @@ fn edits_carry_and_keep_block_entities(rt: HostRuntime) -> Result<(), Fail> {
     let turned = row(&facing, &[0, 1, 1], &first);
     let front = "player anna\n//pos1 0,0,0\n//pos2 0,0,0\n";
     for (edits, replies, after) in [
-        (
-            "//move 1 east\n",
-            "2 anna 4 changed 2\ndone 3\n",
-            moved,
-        ),
+        ("//move 1 east\n", "2 anna 4 changed 2\ndone 3\n", moved),
         (
             "//move 1 east\n//undo\n",
             "2 anna 4 changed 2\n3 anna 5 changed 2\ndone 4\n",
@@ -103,7 +100,8 @@ fn spots(spots: &[(usize, u8)]) -> [u8; 81] {
     data
 }
 
-const CLIPBOARD_TEXT: &str = "0 anna 2 ok\n1 anna 3 ok\n2 anna 4 ok\n3 anna 5 ok\n4 anna 6 ok\n5 anna 7 ok\n6 anna 8 ok\n7 anna 9 changed 3\ndone 8\n";
+const CLIPBOARD_TEXT: &str =
+    "0 anna 2 ok\n1 anna 3 ok\n2 anna 4 ok\n3 anna 5 ok\n4 anna 6 ok\n5 anna 7 ok\n6 anna 8 ok\n7 anna 9 changed 3\ndone 8\n";
 
 const FLOOR: [&str; 6] = [
     "minecraft:air",
@@ -122,8 +120,17 @@ fn assert_pasted(
     after: &Built<'_>,
 ) -> Result<(), Fail> {
     let data = spots(&[(10, 1), (11, 2), (20, 3), (21, 4), (51, 5)]);
-    let script = format!(in alloc; "player anna\n//sel sphere\n//pos1 2,0,2\n//pos2 3,0,2\nat 2,0,2\n//copy\n{turn}\nat 6,0,6\n//paste -a\n")?;
-    assert_leaves(rt, alloc, &floor(&FLOOR, &data), &script, CLIPBOARD_TEXT, after)
+    let script = format!(in alloc;
+        "player anna\n//sel sphere\n//pos1 2,0,2\n//pos2 3,0,2\nat 2,0,2\n//copy\n{turn}\nat 6,0,6\n//paste -a\n"
+    )?;
+    assert_leaves(
+        rt,
+        alloc,
+        &floor(&FLOOR, &data),
+        &script,
+        CLIPBOARD_TEXT,
+        after,
+    )
 }
 
 #[test]
@@ -220,7 +227,8 @@ fn two_players_in_rounds(rt: HostRuntime) -> Result<(), Fail> {
 #[test]
 fn first_script_fault_is_reported(rt: HostRuntime) -> Result<(), Fail> {
     let alloc = rt.alloc();
-    let script = "player anna\n//pos1 0,0,0\n//pos2 0,0,0\n//undo\n# walls\n//redo\n//set \"stone\n\n//sett stone\n";
+    let script =
+        "player anna\n//pos1 0,0,0\n//pos2 0,0,0\n//undo\n# walls\n//redo\n//set \"stone\n\n//sett stone\n";
     let status = "ScriptRefused { script: 1, fault: Line { line: 7, fault: OpenQuote } }";
     let text = "fault: script anna.txt: line 7: open quote\n";
     Outside::steady(&ONE_DIRT, script)

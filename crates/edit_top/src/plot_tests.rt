@@ -5,7 +5,8 @@ use crate::players::Players;
 use std::alloc::{AllocError, Global};
 use std::test::Fail;
 
-const ANNA: &str = "player anna\n//pos1 -20,64,-20\n//pos2 -10,70,-10\n//walls oak_planks\n//faces glass\n//undo\n";
+const ANNA: &str =
+    "player anna\n//pos1 -20,64,-20\n//pos2 -10,70,-10\n//walls oak_planks\n//faces glass\n//undo\n";
 
 const BOB: &str = "player bob\nat 10,64,10\n//cyl stone_bricks 2 3\n";
 

@@ -1,0 +1,3 @@
+pub mod Census
+pub mod CountLemmas
+pub mod Tallies

@@ -1,0 +1,14 @@
+//! How many blocks of each state a world has.
+//!
+//! It serves the calls that tell what a world is made of. Blocks are counted by the number of their state, and the states'
+//! texts are written once each.
+#![tactic(auto)]
+
+mod counting;
+mod tally;
+
+pub use counting::count_states;
+pub use memory::Memory;
+
+#[cfg(test)]
+mod tests;
