@@ -1,32 +1,18 @@
 -- How the parts of a check make its ending, and that good words and a world end well.
-use Rattle.std.proofs.Common.{◌≡◌, ℕ, zero, suc, List, Option, Some, None, Ok, Vec, refl, sym, ap, ◌∙◌, subst}
+use Rattle.std.proofs.Common.{◌≡◌, ℕ, zero, suc, List, Option, Some, None, Ok, refl, sym, ◌∙◌, subst}
 use Rattle.std.specs.Prelude.{option_map}
-use Rattle.std.specs.BTreeMap.{BTreeMap, btree_map_len}
-use Rattle.std.specs.Global.{Global}
-use Rattle.std.proofs.lemmas.List.{length-map}
 use Rattle.run_ports.specs.Store.{Files, StoreState}
 use Rattle.run_ports.specs.Output.{OutputState}
-use Rattle.command_syntax.specs.declared.fault.ScriptFault.{ScriptFault}
 use Rattle.sponge_schematic.specs.Schematic.{schematic_of}
-use Rattle.edit_terms.specs.World.{World}
-use Rattle.state_counts.specs.Counts.{IsCensus, listed}
 use Rattle.edit_top.specs.declared.status.Status.{Status}
 use Rattle.edit_top.specs.declared.status.Status.TheVariants.{Done, Usage, ReadFault, TooLong, WorldRefused, ScriptRefused, DuplicatePlayer, SaveFault, PrintFault, OutOfMemory}
 use Rattle.edit_top.specs.Words.{FileNames}
 use Rattle.edit_top.specs.Status.{fault_text}
-use Rattle.edit_top.specs.Reading.{HasWorld, IsWorldCause, world_limit}
+use Rattle.edit_top.specs.Reading.{IsWorldCause, world_limit}
 use Rattle.edit_top.specs.Ends.{IsTold, NothingFailed, IsDoneOrMemory, IsNoFailure}
-use Rattle.edit_top.specs.CheckText.{checked_by, world_alone, check_text, IsWorldText}
+use Rattle.edit_top.specs.CheckText.{checked_by, world_alone}
 use Rattle.edit_top.specs.CheckEnds.{IsFileText, CheckEnds, IsCheckStopped, IsGoodCheck, Prints}
 use Rattle.edit_top.proofs.Completeness.{not_refused, not_long}
-
--- the text of the states that were counted
-pub counted_text : (w : World) (counts : BTreeMap (Vec ℕ Global) ℕ) (text : List ℕ) → IsCensus w (listed counts) → text ≡ check_text w.area (btree_map_len counts) → IsWorldText w text
-counted_text w counts text census is = record {
-  census = listed counts;
-  counts = census;
-  is = is ∙ ap (check_text w.area) (sym (length-map _ counts.entries));
-}
 
 -- the words name the world of these files
 pub record AreNamed (words : List (List ℕ)) (names : FileNames) : Type 0 where
