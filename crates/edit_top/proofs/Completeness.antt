@@ -32,7 +32,7 @@ both_hold {X} (Some fs) files name P Q tells p q both = by_file (fs name) p q
     by_file (Some bytes) p q = both bytes p q
 
 -- a file that is read isn't refused
-not_refused : {A E : Type 0} (told : Option Files) (files : Files) (name : List ℕ) (limit : ℕ) (reading : List ℕ → Result A E) (a : A) (e : E) → told ≡ Some files
+pub not_refused : {A E : Type 0} (told : Option Files) (files : Files) (name : List ℕ) (limit : ℕ) (reading : List ℕ → Result A E) (a : A) (e : E) → told ≡ Some files
     → HasFile told name limit (λ bytes. reading bytes ≡ Ok a) → HasFile told name limit (λ bytes. reading bytes ≡ Err e) → ⊥
 not_refused {A} {E} told files name limit reading a e tells good bad =
     both_hold told files name (λ bytes. (length bytes ≤ limit) × (reading bytes ≡ Ok a)) (λ bytes. (length bytes ≤ limit) × (reading bytes ≡ Err e)) tells good bad
@@ -42,7 +42,7 @@ not_refused {A} {E} told files name limit reading a e tells good bad =
     differ h = cc
 
 -- nor is it too long
-not_long : (told : Option Files) (files : Files) (name : List ℕ) (limit : ℕ) (P : List ℕ → Type 0) → told ≡ Some files → HasFile told name limit P → IsTooLong told name limit → ⊥
+pub not_long : (told : Option Files) (files : Files) (name : List ℕ) (limit : ℕ) (P : List ℕ → Type 0) → told ≡ Some files → HasFile told name limit P → IsTooLong told name limit → ⊥
 not_long told files name limit P tells good long =
     both_hold told files name (λ bytes. (length bytes ≤ limit) × P bytes) (λ bytes. limit < length bytes) tells good long (λ bytes p q. omega (arith, p.0, q))
 

@@ -12,3 +12,4 @@ pub mod Pieces
 pub mod PlayerNames
 pub mod ReadNames
 pub mod ShownOrder
+pub mod CheckEndings

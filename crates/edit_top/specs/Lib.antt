@@ -8,3 +8,5 @@ pub mod Outputs
 pub mod Ends
 pub mod Prepared
 pub mod ShownOrder
+pub mod CheckText
+pub mod CheckEnds

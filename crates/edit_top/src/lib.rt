@@ -6,6 +6,10 @@
 #![tactic(auto)]
 
 #[cfg(test)]
+mod check_tests;
+mod check_text;
+mod checking;
+#[cfg(test)]
 mod command_tests;
 #[cfg(test)]
 mod fixtures;
@@ -32,6 +36,7 @@ mod world_fault;
 #[cfg(test)]
 mod world_tests;
 
+pub use checking::check;
 pub use memory::Memory;
 pub use order_laws::printed_order_is_unique;
 pub use status::Status;
