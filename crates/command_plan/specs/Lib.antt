@@ -1,0 +1,6 @@
+pub mod Extents
+pub mod Rectangles
+pub mod Cuts
+pub mod Stacks
+pub mod Within
+pub mod Footprints

@@ -1,0 +1,17 @@
+//! Which chunks each command of a workload reads and writes, known before anything runs.
+//!
+//! It serves an engine that runs commands side by side: each command's accesses are those of the definitions,
+//! and a workload with too many of them is refused before any list is built.
+#![tactic(auto)]
+
+mod cutting;
+mod extent;
+mod footprint;
+mod frame;
+mod listing;
+mod reach;
+mod rectangle;
+mod spread;
+mod stacking;
+
+pub use memory::Memory;
