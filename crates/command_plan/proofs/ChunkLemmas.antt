@@ -2,12 +2,12 @@
 --
 -- A chunk of a box is one with a block of both the box and the world's box. Along each axis the columns of these
 -- blocks are a run.
-use Rattle.std.proofs.Common.{◌≡◌, ℕ, zero, suc, ◌+◌, ◌-◌, ◌*◌, ◌/◌, ◌%◌, ◌<◌, ◌≤◌, eqb, Bool, true, false, ◌&&◌, ◌||◌, List, [], ◌∷◌, map, ℤ, pos, ◌+ℤ◌, ◌-ℤ◌, ◌*ℤ◌, ◌≤ℤ◌, refl, sym, ◌∙◌, ap, subst, arith}
+use Rattle.std.proofs.Common.{◌≡◌, ℕ, zero, suc, ◌+◌, ◌-◌, ◌*◌, ◌/◌, ◌%◌, ◌<◌, ◌≤◌, eqb, inl, inr, Bool, true, false, ◌&&◌, ◌||◌, List, [], ◌∷◌, map, ℤ, pos, ◌+ℤ◌, ◌-ℤ◌, ◌*ℤ◌, ◌≤ℤ◌, refl, sym, ◌∙◌, ap, subst, arith}
 use Rattle.std.specs.Prelude.{nat_le, nat_lt}
 use Rattle.std.specs.Int.{int_max}
 use Rattle.std.specs.List.{list_any, range_with_len}
 use Rattle.std.specs.Cmp.Derive.{both_true}
-use Rattle.std.proofs.lemmas.Bool.{eq-eqb, eqb-true}
+use Rattle.std.proofs.lemmas.Bool.{eq-eqb, eqb-true, cases_lt}
 use Rattle.std.proofs.lemmas.Bool.Decides.{nat_tests}
 use Rattle.std.proofs.lemmas.Int.{ints}
 use Rattle.std.proofs.lemmas.Nat.{div-mul-add, mod-mul-add, div-add-mod', div_below, mod_below}
@@ -43,11 +43,11 @@ later test a n found =
 
 pub found_in : (test : ℕ → Bool) (a n : ℕ) → list_any test (range_with_len a n) ≡ true → IsFound test a n
 found_in test a zero h = absurd cc
-found_in test a (suc n) h = by_first (test a) refl h
+found_in test a (suc n) h = by_first (test a) refl h (λ g. found_in test (a + 1) n g)
   where
-    by_first : (b : Bool) → test a ≡ b → (b || list_any test (range_with_len (a + 1) n)) ≡ true → IsFound test a (suc n)
-    by_first true is h = record { place = a; from = omega arith; to = omega arith; is = is }
-    by_first false is h = later test a n (found_in test (a + 1) n h)
+    by_first : (b : Bool) → test a ≡ b → (b || list_any test (range_with_len (a + 1) n)) ≡ true → (list_any test (range_with_len (a + 1) n) ≡ true → IsFound test (a + 1) n) → IsFound test a (suc n)
+    by_first true is h rest = record { place = a; from = omega arith; to = omega arith; is = is }
+    by_first false is h rest = later test a n (rest h)
 
 or_right : (b c : Bool) → c ≡ true → (b || c) ≡ true
 or_right true c h = refl
@@ -59,13 +59,12 @@ or_left false c h = absurd cc
 
 pub any_found : (test : ℕ → Bool) (a n k : ℕ) → a ≤ k → k < a + n → test k ≡ true → list_any test (range_with_len a n) ≡ true
 any_found test a zero k from to is = absurd (omega (arith, from, to))
-any_found test a (suc n) k from to is = by_place (eqb k a) refl
-  where
-    by_place : (b : Bool) → eqb k a ≡ b → (test a || list_any test (range_with_len (a + 1) n)) ≡ true
-    by_place true e = or_left (test a) _ (subst (λ (j : ℕ). test j ≡ true) (eqb-true k a e) is)
-    by_place false e =
-        let more : a + 1 ≤ k = grind (arith, nat_tests) in
-        or_right (test a) _ (any_found test (a + 1) n k more (omega (arith, to)) is)
+any_found test a (suc n) k from to is = elim (cases_lt a k) as (λ _. (test a || list_any test (range_with_len (a + 1) n)) ≡ true) [
+  | inl more ↦ or_right (test a) (list_any test (range_with_len (a + 1) n)) (any_found test (a + 1) n k (omega (arith, more)) (omega (arith, to)) is)
+  | inr same ↦
+      let e : k ≡ a = omega (arith, same, from) in
+      or_left (test a) (list_any test (range_with_len (a + 1) n)) (subst (λ (j : ℕ). test j ≡ true) e is)
+]
 
 pub any_of_map : {X Y : Type 0} (test : Y → Bool) (f : X → Y) (xs : List X) → list_any test (map f xs) ≡ list_any (λ x. test (f x)) xs
 any_of_map test f [] = refl
@@ -73,8 +72,11 @@ any_of_map test f (x ∷ xs) = ap (λ (b : Bool). test (f x) || b) (any_of_map t
 
 -- ---- blocks of a box
 
-pub parts_of : (x y z : Bool) → (x && y && z) ≡ true → (x ≡ true) × (y ≡ true) × (z ≡ true)
+parts_of : (x y z : Bool) → (x && y && z) ≡ true → (x ≡ true) × (y ≡ true) × (z ≡ true)
 parts_of x y z h = let first = and_both (x && y) z h in let two = and_both x y first.0 in (two.0, two.1, first.1)
+
+pub holds_parts : (a : Area) (p : Pos) → holds a p ≡ true → (is_from a.least.x a.width p.x ≡ true) × (is_from a.least.y a.height p.y ≡ true) × (is_from a.least.z a.length p.z ≡ true)
+holds_parts a p h = parts_of (is_from a.least.x a.width p.x) (is_from a.least.y a.height p.y) (is_from a.least.z a.length p.z) h
 
 some_factors : (a b : ℕ) → 0 < a * b → (0 < a) × (0 < b)
 some_factors zero b h = absurd (omega (arith, h))

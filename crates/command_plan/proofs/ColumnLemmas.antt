@@ -20,7 +20,7 @@ sixteenth_high (negsuc a) = grind (arith, ints)
 sixteenth_is : (v q : ℤ) → (q *ℤ pos 16) ≤ℤ v → v <ℤ (q *ℤ pos 16 +ℤ pos 16) → sixteenth v ≡ q
 sixteenth_is v q low high = let a = sixteenth_low v in let b = sixteenth_high v in grind (arith, ints)
 
-sixteenth_rises : (u v : ℤ) → u ≤ℤ v → sixteenth u ≤ℤ sixteenth v
+pub sixteenth_rises : (u v : ℤ) → u ≤ℤ v → sixteenth u ≤ℤ sixteenth v
 sixteenth_rises u v h = let a = sixteenth_low u in let b = sixteenth_high v in grind (arith, ints)
 
 -- A block of the part in the column of 16 that comes so many behind the box's first.

@@ -6,3 +6,8 @@ pub mod SpreadLemmas
 pub mod StackLemmas
 pub mod ChunkLemmas
 pub mod ListingLemmas
+pub mod FootprintLemmas
+pub mod SessionLemmas
+pub mod MarkLemmas
+pub mod CutLemmas
+pub mod PlayerLemmas

@@ -40,8 +40,8 @@ spread_at columns s column row inside = let a = covers_at columns s.first column
 -- ---- outside a rectangle
 
 and_false : (b c : Bool) → c ≡ false → (b && c) ≡ false
-and_false true c no = no
-and_false false c no = refl
+and_false true c fails = fails
+and_false false c fails = refl
 
 before_run : (run : Run) (k : ℕ) → k < run.from → is_among run k ≡ false
 before_run run k h = grind (arith, nat_tests)
@@ -93,8 +93,8 @@ pub part_of_itself : (r : Rectangle) → IsPartOf r r
 part_of_itself r = record { x_from = omega arith; x_to = omega arith; z_from = omega arith; z_to = omega arith }
 
 or_both : (b c : Bool) → b ≡ false → c ≡ false → (b || c) ≡ false
-or_both true c no other = no
-or_both false c no other = other
+or_both true c fails other = absurd cc
+or_both false c fails other = other
 
 pub spread_bounded : (columns : ℕ) (s : Spread) (whole : Rectangle) → 0 < columns → IsPartOf s.first whole → IsPartOf s.second whole → IsBounded columns whole (is_spread_over columns s)
 spread_bounded columns s whole some one two =

@@ -19,22 +19,22 @@ range_split a (suc m) n =
 
 module _ (p : ℕ → Bool) where
   dropped : (a : ℕ) (xs ys : List ℕ) (b : Bool) → b ≡ false → xs ≡ ys → cond b (a ∷ xs) xs ≡ ys
-  dropped a xs ys b no same = rw no same
+  dropped a xs ys b fails same = rw fails same
 
   kept : (a : ℕ) (xs ys : List ℕ) (b : Bool) → b ≡ true → xs ≡ ys → cond b (a ∷ xs) xs ≡ a ∷ ys
-  kept a xs ys b yes same = rw yes (ap (λ (zs : List ℕ). a ∷ zs) same)
+  kept a xs ys b passes same = rw passes (ap (λ (zs : List ℕ). a ∷ zs) same)
 
   pub filter_none : (a n : ℕ) → ((k : ℕ) → a ≤ k → k < a + n → p k ≡ false) → filter p (range_with_len a n) ≡ []
-  filter_none a zero no = refl
-  filter_none a (suc n) no =
-      dropped a (filter p (range_with_len (a + 1) n)) [] (p a) (no a (omega arith) (omega arith))
-      (filter_none (a + 1) n (λ k low high. no k (omega (arith, low)) (omega (arith, high))))
+  filter_none a zero fails = refl
+  filter_none a (suc n) fails =
+      dropped a (filter p (range_with_len (a + 1) n)) [] (p a) (fails a (omega arith) (omega arith))
+      (filter_none (a + 1) n (λ k low high. fails k (omega (arith, low)) (omega (arith, high))))
 
   pub filter_all : (a n : ℕ) → ((k : ℕ) → a ≤ k → k < a + n → p k ≡ true) → filter p (range_with_len a n) ≡ range_with_len a n
-  filter_all a zero yes = refl
-  filter_all a (suc n) yes =
-      kept a (filter p (range_with_len (a + 1) n)) (range_with_len (a + 1) n) (p a) (yes a (omega arith) (omega arith))
-      (filter_all (a + 1) n (λ k low high. yes k (omega (arith, low)) (omega (arith, high))))
+  filter_all a zero passes = refl
+  filter_all a (suc n) passes =
+      kept a (filter p (range_with_len (a + 1) n)) (range_with_len (a + 1) n) (p a) (passes a (omega arith) (omega arith))
+      (filter_all (a + 1) n (λ k low high. passes k (omega (arith, low)) (omega (arith, high))))
 
   pub filter_split : (a m n : ℕ) → filter p (range_with_len a (m + n)) ≡ filter p (range_with_len a m) ++ filter p (range_with_len (a + m) n)
   filter_split a m n = ap (filter p) (range_split a m n) ∙ filter-append p (range_with_len a m) (range_with_len (a + m) n)

@@ -1,5 +1,5 @@
 -- The chunks of one or two boxes that were cut.
-use Rattle.std.proofs.Common.{◌≡◌, ℕ, ◌+◌, ◌<◌, ◌≤◌, Bool, true, false, ◌&&◌, ◌||◌, List, [], ◌++◌, Option, Some, None, refl, sym, ◌∙◌, ap, arith}
+use Rattle.std.proofs.Common.{◌≡◌, ℕ, ◌+◌, ◌%◌, ◌<◌, ◌≤◌, Bool, true, false, ◌&&◌, ◌||◌, List, [], ◌++◌, Option, Some, None, refl, sym, ◌∙◌, ap, arith}
 use Rattle.std.specs.Prelude.{nat_le, nat_lt}
 use Rattle.std.specs.List.{list_any}
 use Rattle.std.proofs.lemmas.Bool.Decides.{nat_tests}
@@ -17,8 +17,8 @@ empty = record { x = record { from = 0; to = 0 }; z = record { from = 0; to = 0 
 none_among : (k : ℕ) → (nat_le 0 k && nat_lt k 0) ≡ false
 none_among k = grind (arith, nat_tests)
 
-covers_none : (columns chunk : ℕ) → covers columns empty chunk ≡ false
-covers_none columns chunk = rw (none_among (chunk % columns)) refl
+covers_none : (wide chunk : ℕ) → covers wide empty chunk ≡ false
+covers_none wide chunk = rw (none_among (chunk % wide)) refl
 
 empty_inside : (area : Area) → IsInside (floor_of area) empty
 empty_inside area = record { x = record { order = omega arith; within = omega arith }; z = record { order = omega arith; within = omega arith } }
@@ -50,8 +50,8 @@ spread_of_two area xs ys r s is it = record {
 }
 
 or_false : (b c : Bool) → c ≡ false → (b || c) ≡ b
-or_false true c no = refl
-or_false false c no = no
+or_false true c fails = refl
+or_false false c fails = fails
 
 pub cut_with_apart : (area : Area) (xs ys : List Area) (r : Rectangle) → IsCover area xs r → IsApart area ys → IsCover area (xs ++ ys) r
 cut_with_apart area xs ys r is none = record {

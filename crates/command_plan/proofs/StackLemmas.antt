@@ -1,5 +1,5 @@
 -- The copies of a stack lie side by side: together they are one box.
-use Rattle.std.proofs.Common.{◌≡◌, ℕ, zero, suc, ◌+◌, ◌-◌, ◌*◌, ◌/◌, ◌<◌, ◌≤◌, Bool, true, ◌&&◌, List, ℤ, pos, ◌+ℤ◌, ◌-ℤ◌, ◌*ℤ◌, refl, sym, ◌∙◌, ap, arith}
+use Rattle.std.proofs.Common.{◌≡◌, ℕ, zero, suc, ◌+◌, ◌-◌, ◌*◌, ◌/◌, ◌%◌, ◌<◌, ◌≤◌, Bool, true, ◌&&◌, List, ℤ, pos, ◌+ℤ◌, ◌-ℤ◌, ◌*ℤ◌, refl, sym, ◌∙◌, ap, arith}
 use Rattle.std.specs.Prelude.{nat_abs}
 use Rattle.std.specs.List.{list_any, range_with_len}
 use Rattle.std.specs.Cmp.Derive.{both_true}
@@ -12,8 +12,10 @@ use Rattle.edit_terms.specs.declared.pos.Pos.{Pos}
 use Rattle.edit_terms.specs.Area.{Area, is_from, holds}
 use Rattle.edit_terms.specs.Frame.{size_along}
 use Rattle.run_terms.specs.Access.{is_chunk_of_box, moved_box, stacked_boxes}
+use Rattle.command_plan.specs.declared.extent.Extent.{Extent}
+use Rattle.command_plan.specs.Extents.{IsExtent}
 use Rattle.command_plan.specs.Stacks.{stack_hull}
-use Rattle.command_plan.proofs.ChunkLemmas.{same_tests, IsFound, found_in, any_found, any_of_map, parts_of, IsBlockIn, block_of_chunk, chunk_of_block}
+use Rattle.command_plan.proofs.ChunkLemmas.{same_tests, IsFound, found_in, any_found, any_of_map, holds_parts, IsBlockIn, block_of_chunk, chunk_of_block}
 
 -- ---- along one axis
 
@@ -29,6 +31,15 @@ pub before_start : (low : ℤ) (size count : ℕ) → (low -ℤ ((low +ℤ pos s
 before_start low size count =
     let e : (low +ℤ pos size) -ℤ low ≡ pos size = omega (arith, ints) in
     ap (λ (k : ℤ). low -ℤ k *ℤ pos count) e ∙ ap (λ (k : ℤ). low -ℤ k) (times size count)
+
+pub stacked_behind : (e : Extent) (low : ℤ) (size count : ℕ) → IsExtent e low size → (e.to +ℤ (e.to -ℤ e.from) *ℤ pos count) ≡ (low +ℤ pos size) +ℤ pos (count * size)
+stacked_behind e low size count is = let f = is.from in let t = is.to in rw (f, t) (behind_end low size count)
+
+pub stacked_before : (e : Extent) (low : ℤ) (size count : ℕ) → IsExtent e low size → (e.from -ℤ (e.to -ℤ e.from) *ℤ pos count) ≡ low -ℤ pos (count * size)
+stacked_before e low size count is = let f = is.from in let t = is.to in rw (f, t) (before_start low size count)
+
+pub back_again : (low : ℤ) (far : ℕ) → low ≡ (low -ℤ pos far) +ℤ pos far
+back_again low far = omega (arith, ints)
 
 -- a copy of a stack
 record IsCopy (count i : ℕ) : Type 0 where
@@ -121,20 +132,20 @@ backward_copy low v size count h = let gap = backward_gap low v (count * size) h
 -- ---- boxes
 
 copy_in_hull : (to : Direction) (box : Area) (count i : ℕ) (p : Pos) → IsCopy count i → holds (moved_box to (i * size_along to box) box) p ≡ true → holds (stack_hull count to box) p ≡ true
-copy_in_hull North box count i p is h = let parts = parts_of _ _ _ h in both_true (both_true parts.0 parts.1) (backward_in box.least.z p.z box.length count i is parts.2)
-copy_in_hull South box count i p is h = let parts = parts_of _ _ _ h in both_true (both_true parts.0 parts.1) (onward_in box.least.z p.z box.length count i is parts.2)
-copy_in_hull East box count i p is h = let parts = parts_of _ _ _ h in both_true (both_true (onward_in box.least.x p.x box.width count i is parts.0) parts.1) parts.2
-copy_in_hull West box count i p is h = let parts = parts_of _ _ _ h in both_true (both_true (backward_in box.least.x p.x box.width count i is parts.0) parts.1) parts.2
-copy_in_hull Up box count i p is h = let parts = parts_of _ _ _ h in both_true (both_true parts.0 (onward_in box.least.y p.y box.height count i is parts.1)) parts.2
-copy_in_hull Down box count i p is h = let parts = parts_of _ _ _ h in both_true (both_true parts.0 (backward_in box.least.y p.y box.height count i is parts.1)) parts.2
+copy_in_hull North box count i p is h = let parts = holds_parts (moved_box North (i * size_along North box) box) p h in both_true (both_true parts.0 parts.1) (backward_in box.least.z p.z box.length count i is parts.2)
+copy_in_hull South box count i p is h = let parts = holds_parts (moved_box South (i * size_along South box) box) p h in both_true (both_true parts.0 parts.1) (onward_in box.least.z p.z box.length count i is parts.2)
+copy_in_hull East box count i p is h = let parts = holds_parts (moved_box East (i * size_along East box) box) p h in both_true (both_true (onward_in box.least.x p.x box.width count i is parts.0) parts.1) parts.2
+copy_in_hull West box count i p is h = let parts = holds_parts (moved_box West (i * size_along West box) box) p h in both_true (both_true (backward_in box.least.x p.x box.width count i is parts.0) parts.1) parts.2
+copy_in_hull Up box count i p is h = let parts = holds_parts (moved_box Up (i * size_along Up box) box) p h in both_true (both_true parts.0 (onward_in box.least.y p.y box.height count i is parts.1)) parts.2
+copy_in_hull Down box count i p is h = let parts = holds_parts (moved_box Down (i * size_along Down box) box) p h in both_true (both_true parts.0 (backward_in box.least.y p.y box.height count i is parts.1)) parts.2
 
 hull_in_copy : (to : Direction) (box : Area) (count : ℕ) (p : Pos) → holds (stack_hull count to box) p ≡ true → IsCopyOf (λ i. holds (moved_box to (i * size_along to box) box) p) count
-hull_in_copy North box count p h = let parts = parts_of _ _ _ h in let copy = backward_copy box.least.z p.z box.length count parts.2 in record { number = copy.number; is = copy.is; has = both_true (both_true parts.0 parts.1) copy.has }
-hull_in_copy South box count p h = let parts = parts_of _ _ _ h in let copy = onward_copy box.least.z p.z box.length count parts.2 in record { number = copy.number; is = copy.is; has = both_true (both_true parts.0 parts.1) copy.has }
-hull_in_copy East box count p h = let parts = parts_of _ _ _ h in let copy = onward_copy box.least.x p.x box.width count parts.0 in record { number = copy.number; is = copy.is; has = both_true (both_true copy.has parts.1) parts.2 }
-hull_in_copy West box count p h = let parts = parts_of _ _ _ h in let copy = backward_copy box.least.x p.x box.width count parts.0 in record { number = copy.number; is = copy.is; has = both_true (both_true copy.has parts.1) parts.2 }
-hull_in_copy Up box count p h = let parts = parts_of _ _ _ h in let copy = onward_copy box.least.y p.y box.height count parts.1 in record { number = copy.number; is = copy.is; has = both_true (both_true parts.0 copy.has) parts.2 }
-hull_in_copy Down box count p h = let parts = parts_of _ _ _ h in let copy = backward_copy box.least.y p.y box.height count parts.1 in record { number = copy.number; is = copy.is; has = both_true (both_true parts.0 copy.has) parts.2 }
+hull_in_copy North box count p h = let parts = holds_parts (stack_hull count North box) p h in let copy = backward_copy box.least.z p.z box.length count parts.2 in record { number = copy.number; is = copy.is; has = both_true (both_true parts.0 parts.1) copy.has }
+hull_in_copy South box count p h = let parts = holds_parts (stack_hull count South box) p h in let copy = onward_copy box.least.z p.z box.length count parts.2 in record { number = copy.number; is = copy.is; has = both_true (both_true parts.0 parts.1) copy.has }
+hull_in_copy East box count p h = let parts = holds_parts (stack_hull count East box) p h in let copy = onward_copy box.least.x p.x box.width count parts.0 in record { number = copy.number; is = copy.is; has = both_true (both_true copy.has parts.1) parts.2 }
+hull_in_copy West box count p h = let parts = holds_parts (stack_hull count West box) p h in let copy = backward_copy box.least.x p.x box.width count parts.0 in record { number = copy.number; is = copy.is; has = both_true (both_true copy.has parts.1) parts.2 }
+hull_in_copy Up box count p h = let parts = holds_parts (stack_hull count Up box) p h in let copy = onward_copy box.least.y p.y box.height count parts.1 in record { number = copy.number; is = copy.is; has = both_true (both_true parts.0 copy.has) parts.2 }
+hull_in_copy Down box count p h = let parts = holds_parts (stack_hull count Down box) p h in let copy = backward_copy box.least.y p.y box.height count parts.1 in record { number = copy.number; is = copy.is; has = both_true (both_true parts.0 copy.has) parts.2 }
 
 -- a chunk has a block of one of the copies exactly where it has one of the hull
 pub stack_is_hull : (area box : Area) (chunk count : ℕ) (to : Direction) → list_any (is_chunk_of_box area chunk) (stacked_boxes count to box) ≡ is_chunk_of_box area chunk (stack_hull count to box)

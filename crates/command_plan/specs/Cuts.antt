@@ -5,7 +5,7 @@ use Rattle.std.specs.List.{list_any}
 use Rattle.edit_terms.specs.Area.{Area, offset, sixteenth, columns}
 use Rattle.edit_terms.specs.Frame.{common_count}
 use Rattle.run_terms.specs.Access.{is_chunk_of_box}
-use Rattle.command_plan.specs.declared.cutting.Shared.{Shared}
+use Rattle.command_plan.specs.declared.shared.Shared.{Shared}
 use Rattle.command_plan.specs.declared.extent.Extent.{Extent}
 use Rattle.command_plan.specs.declared.rectangle.Run.{Run}
 use Rattle.command_plan.specs.declared.rectangle.Rectangle.{Rectangle}

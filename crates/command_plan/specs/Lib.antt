@@ -4,3 +4,5 @@ pub mod Cuts
 pub mod Stacks
 pub mod Within
 pub mod Footprints
+pub mod Courses
+pub mod Taken

@@ -8,18 +8,9 @@ ghost use Rattle.command_plan.specs.Rectangles.{floor_of, IsFloor};
 
 use crate::extent::{Extent, onward_x, onward_y, onward_z};
 use crate::frame::Frame;
-use crate::rectangle::{Floor, Rectangle, Run};
+use crate::rectangle::{Rectangle, Run};
+use crate::shared::Shared;
 use edit_terms::WorldBox;
-
-/// The coordinates that a world's box and another box have in common on one axis: the first and the last.
-#[derive(Clone, Copy, Debug)]
-pub(crate) struct Shared {
-    pub(crate) from: i64,
-    pub(crate) last: i64,
-    ghost least: { negsuc 33554431 ≤ℤ from },
-    ghost order: { from ≤ℤ last },
-    ghost most: { last <ℤ pos 33554432 },
-}
 
 fn common(frame: &Extent, own: &Extent) -> Option<Shared>
     requires least { negsuc 33554431 ≤ℤ own.now.from }

@@ -123,29 +123,31 @@ fn of_spec(spec: &Spec, area: &WorldBox) -> Footprint
             reads: nothing(),
             writes: single(at, area),
         },
-        Work::Undo { .. } => no_footprint(),
-        Work::Redo { .. } => no_footprint(),
-    }
-}
-
-fn no_footprint() -> Footprint
-    ensures reads { (area : Area) → IsSpreadOf area [] result.reads }
-    ensures writes { (area : Area) → IsSpreadOf area [] result.writes }
-{
-    Footprint {
-        reads: nothing(),
-        writes: nothing(),
+        Work::Undo { .. } => Footprint {
+            reads: nothing(),
+            writes: nothing(),
+        },
+        Work::Redo { .. } => Footprint {
+            reads: nothing(),
+            writes: nothing(),
+        },
     }
 }
 
 /// Which chunks a resolved command reads and writes by itself.
-pub(crate) fn footprint(step: &Step, area: &WorldBox) -> Footprint
+pub(crate) fn footprint_of(step: &Step, area: &WorldBox) -> Footprint
     requires { IsStepWithin step.now }
     ensures { IsFootprint area.now step.now result }
 {
     match step {
         Step::Job(spec) => of_spec(spec, area),
-        Step::Settled => no_footprint(),
-        Step::Refused(_) => no_footprint(),
+        Step::Settled => Footprint {
+            reads: nothing(),
+            writes: nothing(),
+        },
+        Step::Refused(_) => Footprint {
+            reads: nothing(),
+            writes: nothing(),
+        },
     }
 }

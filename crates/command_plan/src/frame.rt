@@ -1,6 +1,6 @@
 //! Bounding boxes of regions.
 
-ghost use Rattle.std.specs.Prelude.{◌≡◌, ℕ, ◌<◌, ◌^◌, ℤ, ◌+ℤ◌};
+ghost use Rattle.std.specs.Prelude.{◌≡◌, ℕ, ◌<◌, ◌^◌, ℤ, pos, ◌+ℤ◌};
 ghost use Rattle.clipboard_transform.specs.Bounds.{corners, last_from};
 ghost use Rattle.edit_terms.specs.Area.{Area};
 ghost use Rattle.edit_terms.specs.Clipboard.{placed_at};
@@ -117,33 +117,66 @@ pub(crate) fn single_frame(p: &Pos) -> Frame
     }
 }
 
+fn start_x(place: &Pos, relative: &Pos) -> i64
+    ensures { result ≡ place.now.x +ℤ relative.now.x }
+{
+    i64::from(place.x) + i64::from(relative.x)
+}
+
+fn end_x(place: &Pos, relative: &Pos) -> i64
+    ensures { result ≡ place.now.x +ℤ relative.now.x +ℤ pos 1 }
+{
+    i64::from(place.x) + i64::from(relative.x) + 1
+}
+
 fn placed_x(place: &Pos, bounds: &RelativeBox) -> Extent
     ensures { (low : ℤ) (size : ℕ) → bounds.now.least.x ≡ low → bounds.now.greatest.x ≡ last_from low size → IsExtent result (place.now.x +ℤ low) size }
 {
-    let x = i64::from(place.x);
     Extent {
-        from: x + i64::from(bounds.least.x),
-        to: x + i64::from(bounds.greatest.x) + 1,
+        from: start_x(place, &bounds.least),
+        to: end_x(place, &bounds.greatest),
     }
+}
+
+fn start_y(place: &Pos, relative: &Pos) -> i64
+    ensures { result ≡ place.now.y +ℤ relative.now.y }
+{
+    i64::from(place.y) + i64::from(relative.y)
+}
+
+fn end_y(place: &Pos, relative: &Pos) -> i64
+    ensures { result ≡ place.now.y +ℤ relative.now.y +ℤ pos 1 }
+{
+    i64::from(place.y) + i64::from(relative.y) + 1
 }
 
 fn placed_y(place: &Pos, bounds: &RelativeBox) -> Extent
     ensures { (low : ℤ) (size : ℕ) → bounds.now.least.y ≡ low → bounds.now.greatest.y ≡ last_from low size → IsExtent result (place.now.y +ℤ low) size }
 {
-    let y = i64::from(place.y);
     Extent {
-        from: y + i64::from(bounds.least.y),
-        to: y + i64::from(bounds.greatest.y) + 1,
+        from: start_y(place, &bounds.least),
+        to: end_y(place, &bounds.greatest),
     }
+}
+
+fn start_z(place: &Pos, relative: &Pos) -> i64
+    ensures { result ≡ place.now.z +ℤ relative.now.z }
+{
+    i64::from(place.z) + i64::from(relative.z)
+}
+
+fn end_z(place: &Pos, relative: &Pos) -> i64
+    ensures { result ≡ place.now.z +ℤ relative.now.z +ℤ pos 1 }
+{
+    i64::from(place.z) + i64::from(relative.z) + 1
 }
 
 fn placed_z(place: &Pos, bounds: &RelativeBox) -> Extent
     ensures { (low : ℤ) (size : ℕ) → bounds.now.least.z ≡ low → bounds.now.greatest.z ≡ last_from low size → IsExtent result (place.now.z +ℤ low) size }
 {
-    let z = i64::from(place.z);
     Extent {
-        from: z + i64::from(bounds.least.z),
-        to: z + i64::from(bounds.greatest.z) + 1,
+        from: start_z(place, &bounds.least),
+        to: end_z(place, &bounds.greatest),
     }
 }
 

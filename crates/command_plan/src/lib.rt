@@ -4,14 +4,18 @@
 //! and a workload with too many of them is refused before any list is built.
 #![tactic(auto)]
 
+mod course;
 mod cutting;
 mod extent;
 mod footprint;
 mod frame;
 mod listing;
+mod marks;
 mod reach;
 mod rectangle;
+mod shared;
 mod spread;
 mod stacking;
+mod writes;
 
 pub use memory::Memory;

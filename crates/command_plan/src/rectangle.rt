@@ -1,6 +1,6 @@
 //! Rectangles of chunks.
 
-ghost use Rattle.std.specs.Prelude.{◌≡◌, ℕ, ◌-◌, ◌*◌, ◌≤◌, ◌&&◌, ◌⊎◌};
+ghost use Rattle.std.specs.Prelude.{◌≡◌, ℕ, ◌≤◌, ◌&&◌, ◌⊎◌};
 ghost use Rattle.command_plan.specs.Rectangles.{is_among, IsRunWithin, IsInside, IsPartOf, covers};
 ghost use Rattle.command_plan.specs.declared.rectangle.Floor.{Floor};
 
@@ -69,7 +69,6 @@ fn greater(a: u32, b: u32) -> u32
 }
 
 /// The columns of both.
-#[tactic(auto, using(crate::proofs::RectangleLemmas::common_test, crate::proofs::RectangleLemmas::common_order))]
 fn common_run(a: &Run, b: &Run) -> Run
     ensures within { (whole : ℕ) → IsRunWithin a.now whole → IsRunWithin b.now whole → IsRunWithin result whole }
     ensures exact { (column : ℕ) → is_among result column ≡ (is_among a.now column && is_among b.now column) }

@@ -2,14 +2,15 @@
 
 ghost use Rattle.std.specs.Prelude.{◌≡◌, List, [], ◌++◌};
 ghost use Rattle.edit_terms.specs.Area.{Area};
-ghost use Rattle.command_plan.specs.Cuts.{IsCutOf, IsSpreadOf};
+ghost use Rattle.command_plan.specs.Cuts.{IsApart, IsCutOf, IsSpreadOf};
 
 use crate::rectangle::{Rectangle, Run, Spread};
 
 /// No chunk.
-#[tactic(auto, using(crate::proofs::SpreadLemmas::spread_of_nothing))]
+#[tactic(auto, using(crate::proofs::SpreadLemmas::spread_of_nothing, crate::proofs::SpreadLemmas::spread_of_none))]
 pub(crate) fn nothing() -> Spread
-    ensures { (area : Area) → IsSpreadOf area [] result }
+    ensures nothing { (area : Area) → IsSpreadOf area [] result }
+    ensures apart { (area : Area) (boxes : List Area) → IsApart area boxes → IsSpreadOf area boxes result }
 {
     let none = Run { from: 0, to: 0 };
     let empty = Rectangle { x: none, z: none };
@@ -20,7 +21,7 @@ pub(crate) fn nothing() -> Spread
 }
 
 /// The chunks of a box that was cut.
-#[tactic(auto, using(crate::proofs::SpreadLemmas::spread_of_none, crate::proofs::SpreadLemmas::spread_of_one))]
+#[tactic(auto, using(crate::proofs::SpreadLemmas::spread_of_one))]
 pub(crate) fn of_one(cut: Option<Rectangle>) -> Spread
     ensures { (area : Area) (boxes : List Area) → IsCutOf area boxes cut → IsSpreadOf area boxes result }
 {

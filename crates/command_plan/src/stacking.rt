@@ -1,6 +1,6 @@
 //! Boxes that are moved or stacked.
 
-ghost use Rattle.std.specs.Prelude.{◌≡◌, ℕ, ℤ, ◌*◌, ◌≤◌, pos, ◌+ℤ◌, ◌-ℤ◌};
+ghost use Rattle.std.specs.Prelude.{◌≡◌, ℕ, ℤ, ◌*◌, ◌≤◌, pos, ◌+ℤ◌, ◌-ℤ◌, ◌*ℤ◌};
 ghost use Rattle.edit_terms.specs.Area.{Area};
 ghost use Rattle.run_terms.specs.Access.{moved_box};
 ghost use Rattle.command_plan.specs.Extents.{IsExtent, IsNear, IsFrame, IsFrameNear};
@@ -70,31 +70,40 @@ pub(crate) fn moved(frame: &Frame, to: Direction, count: u32) -> Frame
     }
 }
 
-/// What so many copies fill that lie one behind the other.
-#[tactic(auto, using(crate::proofs::StackLemmas::behind_end))]
+/// The end of so many copies that lie one behind the other.
+fn end_behind(e: &Extent, count: u32) -> i64
+    requires near { IsNear e.now }
+    requires few { count ≤ 1000 }
+    ensures { result ≡ e.now.to +ℤ (e.now.to -ℤ e.now.from) *ℤ pos count }
+{
+    e.to + (e.to - e.from) * i64::from(count)
+}
+
+/// The start of so many copies that lie one before the other.
+fn start_before(e: &Extent, count: u32) -> i64
+    requires near { IsNear e.now }
+    requires few { count ≤ 1000 }
+    ensures { result ≡ e.now.from -ℤ (e.now.to -ℤ e.now.from) *ℤ pos count }
+{
+    e.from - (e.to - e.from) * i64::from(count)
+}
+
 fn stacked_onward(e: &Extent, count: u32) -> Extent
     requires near { IsNear e.now }
     requires few { count ≤ 1000 }
     ensures { (low : ℤ) (size : ℕ) → IsExtent e.now low size → IsExtent result (low +ℤ pos size) (count * size) }
 {
-    let size = e.to - e.from;
-    Extent {
-        from: e.to,
-        to: e.to + size * i64::from(count),
-    }
+    let to = end_behind(e, count);
+    Extent { from: e.to, to }
 }
 
-#[tactic(auto, using(crate::proofs::StackLemmas::before_start))]
 fn stacked_backward(e: &Extent, count: u32) -> Extent
     requires near { IsNear e.now }
     requires few { count ≤ 1000 }
     ensures { (low : ℤ) (size : ℕ) → IsExtent e.now low size → IsExtent result (low -ℤ pos (count * size)) (count * size) }
 {
-    let size = e.to - e.from;
-    Extent {
-        from: e.from - size * i64::from(count),
-        to: e.from,
-    }
+    let from = start_before(e, count);
+    Extent { from, to: e.from }
 }
 
 /// What the copies of a stack fill: they lie side by side.
