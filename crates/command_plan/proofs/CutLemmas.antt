@@ -1,15 +1,17 @@
 -- What a world's box and another have in common along one axis, by the ends of their coordinates.
-use Rattle.std.proofs.Common.{◌≡◌, ℕ, ◌+◌, ◌-◌, ◌<◌, ◌≤◌, ℤ, pos, ◌+ℤ◌, ◌-ℤ◌, ◌*ℤ◌, ◌≤ℤ◌, ◌<ℤ◌, refl, ◌∙◌, arith}
+use Rattle.std.proofs.Common.{◌≡◌, ℕ, ◌+◌, ◌-◌, ◌<◌, ◌≤◌, true, ap, ℤ, pos, ◌+ℤ◌, ◌-ℤ◌, ◌*ℤ◌, ◌≤ℤ◌, ◌<ℤ◌, refl, ◌∙◌, arith}
 use Rattle.std.specs.Prelude.{nat_abs}
 use Rattle.std.specs.Int.{int_min, int_max}
 use Rattle.std.proofs.lemmas.Int.{ints}
-use Rattle.edit_terms.specs.Area.{offset, sixteenth, columns}
+use Rattle.edit_terms.specs.Area.{Area, offset, sixteenth, columns, is_world_box}
+use Rattle.edit_terms.proofs.AreaLemmas.{limits}
 use Rattle.edit_terms.specs.Frame.{count_up_to, common_count}
 use Rattle.command_plan.specs.declared.extent.Extent.{Extent}
 use Rattle.command_plan.specs.declared.shared.Shared.{Shared}
 use Rattle.command_plan.specs.Extents.{IsExtent}
 use Rattle.command_plan.specs.Cuts.{IsShared}
-use Rattle.command_plan.proofs.ColumnLemmas.{sixteenth_rises}
+use Rattle.command_plan.proofs.ColumnLemmas.{sixteenth_rises, few_columns}
+use Rattle.command_plan.specs.Rectangles.{floor_of, IsFloor}
 
 pub common_none : (e f : Extent) (a : ℤ) (m : ℕ) (b : ℤ) (n : ℕ) → IsExtent e a m → IsExtent f b n → int_min e.to f.to ≤ℤ int_max e.from f.from → common_count a m b n ≡ 0
 common_none e f a m b n he hf none =
@@ -59,3 +61,25 @@ last_columns own s a b n size is shared =
     let f = is.from in let g = shared.last in
     let low = int_max a b in
     rw (f, g) (columns_sum (sixteenth b) (sixteenth low) (sixteenth (low +ℤ pos (size - 1))) (sixteenth_rises b low (max_behind a b)) (sixteenth_rises low (low +ℤ pos (size - 1)) (last_behind low size)))
+
+-- ---- the whole box
+
+pub own_columns : (own : Extent) (last low : ℤ) (size : ℕ) → IsExtent own low size → own.from <ℤ own.to → last ≡ own.to -ℤ pos 1 → offset (sixteenth own.from) (sixteenth last) + 1 ≡ columns low size
+own_columns own last low size is order at =
+    let f = is.from in let t = is.to in
+    let some : low <ℤ (low +ℤ pos size) = simp (f, t) at order in
+    let e : last ≡ low +ℤ pos (size - 1) = at ∙ ap (λ (v : ℤ). v -ℤ pos 1) t ∙ end_of low size some in
+    rw (f, e) refl
+  where
+    end_of : (low : ℤ) (size : ℕ) → low <ℤ (low +ℤ pos size) → (low +ℤ pos size) -ℤ pos 1 ≡ low +ℤ pos (size - 1)
+    end_of low size some = grind (arith, ints)
+
+pub floor_is : (area : Area) → is_world_box area ≡ true → IsFloor (floor_of area)
+floor_is area h =
+    let fits = limits area h in
+    record {
+      wide = omega arith;
+      long = omega arith;
+      few_columns = few_columns area.least.x area.width fits.narrow;
+      few_rows = few_columns area.least.z area.length fits.short;
+    }

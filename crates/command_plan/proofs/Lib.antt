@@ -11,3 +11,7 @@ pub mod SessionLemmas
 pub mod MarkLemmas
 pub mod CutLemmas
 pub mod PlayerLemmas
+pub mod CourseLemmas
+pub mod WriteLemmas
+pub mod KeepLemmas
+pub mod PlanLemmas

@@ -19,27 +19,13 @@ use Rattle.command_plan.proofs.ChunkLemmas.{same_tests, IsFound, found_in, any_f
 
 -- ---- along one axis
 
-times : (size count : ℕ) → (pos size *ℤ pos count) ≡ pos (count * size)
-times size count = omega (arith, ints)
-
-pub behind_end : (low : ℤ) (size count : ℕ) → ((low +ℤ pos size) +ℤ ((low +ℤ pos size) -ℤ low) *ℤ pos count) ≡ (low +ℤ pos size) +ℤ pos (count * size)
-behind_end low size count =
-    let e : (low +ℤ pos size) -ℤ low ≡ pos size = omega (arith, ints) in
-    ap (λ (k : ℤ). (low +ℤ pos size) +ℤ k *ℤ pos count) e ∙ ap (λ (k : ℤ). (low +ℤ pos size) +ℤ k) (times size count)
-
-pub before_start : (low : ℤ) (size count : ℕ) → (low -ℤ ((low +ℤ pos size) -ℤ low) *ℤ pos count) ≡ low -ℤ pos (count * size)
-before_start low size count =
-    let e : (low +ℤ pos size) -ℤ low ≡ pos size = omega (arith, ints) in
-    ap (λ (k : ℤ). low -ℤ k *ℤ pos count) e ∙ ap (λ (k : ℤ). low -ℤ k) (times size count)
-
-pub stacked_behind : (e : Extent) (low : ℤ) (size count : ℕ) → IsExtent e low size → (e.to +ℤ (e.to -ℤ e.from) *ℤ pos count) ≡ (low +ℤ pos size) +ℤ pos (count * size)
-stacked_behind e low size count is = let f = is.from in let t = is.to in rw (f, t) (behind_end low size count)
-
-pub stacked_before : (e : Extent) (low : ℤ) (size count : ℕ) → IsExtent e low size → (e.from -ℤ (e.to -ℤ e.from) *ℤ pos count) ≡ low -ℤ pos (count * size)
-stacked_before e low size count is = let f = is.from in let t = is.to in rw (f, t) (before_start low size count)
-
-pub back_again : (low : ℤ) (far : ℕ) → low ≡ (low -ℤ pos far) +ℤ pos far
-back_again low far = omega (arith, ints)
+pub copies_size : (e : Extent) (low : ℤ) (size count : ℕ) → IsExtent e low size → count * nat_abs (e.to -ℤ e.from) ≡ count * size
+copies_size e low size count is =
+    let f = is.from in let t = is.to in
+    rw (f, t) (ap (λ (n : ℕ). count * n) (counted low size))
+  where
+    counted : (low : ℤ) (size : ℕ) → nat_abs ((low +ℤ pos size) -ℤ low) ≡ size
+    counted low size = grind (arith, ints)
 
 -- a copy of a stack
 record IsCopy (count i : ℕ) : Type 0 where

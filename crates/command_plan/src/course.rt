@@ -20,6 +20,7 @@ pub(crate) struct Course {
 }
 
 /// The commands of a script.
+#[tactic(auto, using(crate::proofs::CourseLemmas::taken_none))]
 pub(crate) fn resolved(
     alloc: Global,
     area: &WorldBox,

@@ -1,14 +1,14 @@
 //! Boxes cut by a world's box, by their columns of chunks.
 
-ghost use Rattle.std.specs.Prelude.{◌≡◌, ◌+◌, ◌≤◌, ◌<◌, IfSome, pos, negsuc, ◌+ℤ◌, ◌-ℤ◌, ◌*ℤ◌, ◌≤ℤ◌, ◌<ℤ◌, [], ◌∷◌};
-ghost use Rattle.edit_terms.specs.Area.{Area, offset, sixteenth};
-ghost use Rattle.command_plan.specs.Extents.{IsFrame};
+ghost use Rattle.std.specs.Prelude.{◌≡◌, ℕ, ℤ, ◌+◌, ◌≤◌, ◌<◌, IfSome, pos, negsuc, ◌+ℤ◌, ◌-ℤ◌, ◌*ℤ◌, ◌≤ℤ◌, ◌<ℤ◌, [], ◌∷◌};
+ghost use Rattle.edit_terms.specs.Area.{Area, columns, offset, sixteenth};
+ghost use Rattle.command_plan.specs.Extents.{IsExtent, IsFrame};
 ghost use Rattle.command_plan.specs.Cuts.{IsCommon, IsCutRun, IsCutOf};
 ghost use Rattle.command_plan.specs.Rectangles.{floor_of, IsFloor};
 
 use crate::extent::{Extent, onward_x, onward_y, onward_z};
 use crate::frame::Frame;
-use crate::rectangle::{Rectangle, Run};
+use crate::rectangle::{Floor, Rectangle, Run};
 use crate::shared::Shared;
 use edit_terms::WorldBox;
 
@@ -88,11 +88,13 @@ fn cut_run(frame: &Extent, own: &Extent) -> Option<Run>
 }
 
 /// The coordinates of a world's box.
-#[tactic(auto, using(edit_terms::proofs::AreaLemmas::on_map))]
+#[tactic(auto, using(edit_terms::proofs::AreaLemmas::on_map, edit_terms::proofs::AreaLemmas::limits))]
 fn frame_of_box(area: &WorldBox) -> Frame
     ensures frame { IsFrame result area.now }
     ensures least_x { negsuc 33554431 ≤ℤ result.x.from }
     ensures most_x { result.x.to ≤ℤ pos 33554432 }
+    ensures order_x { result.x.from <ℤ result.x.to }
+    ensures order_z { result.z.from <ℤ result.z.to }
     ensures least_y { negsuc 33554431 ≤ℤ result.y.from }
     ensures most_y { result.y.to ≤ℤ pos 33554432 }
     ensures least_z { negsuc 33554431 ≤ℤ result.z.from }
@@ -104,6 +106,34 @@ fn frame_of_box(area: &WorldBox) -> Frame
         x: onward_x(&least, area.width()),
         y: onward_y(&least, area.height()),
         z: onward_z(&least, area.length()),
+    }
+}
+
+/// How many columns of chunks the coordinates of a world's box have.
+fn columns_along(own: &Extent) -> u32
+    requires least { negsuc 33554431 ≤ℤ own.now.from }
+    requires order { own.now.from <ℤ own.now.to }
+    requires most { own.now.to ≤ℤ pos 33554432 }
+    ensures { (low : ℤ) (size : ℕ) → IsExtent own.now low size → result ≡ columns low size }
+{
+    let shared = Shared {
+        from: own.from,
+        last: own.to - 1,
+    };
+    columns_to_last(own, &shared) + 1
+}
+
+/// The columns of chunks of a world's box.
+#[tactic(auto, using(crate::proofs::CutLemmas::floor_is))]
+pub(crate) fn floor_of(area: &WorldBox) -> Floor
+    ensures value { result ≡ floor_of area.now }
+    ensures floor { IsFloor (floor_of area.now) }
+{
+    let own = frame_of_box(area);
+    area.well_formed();
+    Floor {
+        columns: columns_along(&own.x),
+        rows: columns_along(&own.z),
     }
 }
 

@@ -90,6 +90,17 @@ fn pasted(place: &Pos, clip: &Option<Clip>, area: &WorldBox) -> Spread
     }
 }
 
+/// No chunk.
+fn untouched() -> Footprint
+    ensures reads { (area : Area) → IsSpreadOf area [] result.reads }
+    ensures writes { (area : Area) → IsSpreadOf area [] result.writes }
+{
+    Footprint {
+        reads: nothing(),
+        writes: nothing(),
+    }
+}
+
 fn of_spec(spec: &Spec, area: &WorldBox) -> Footprint
     requires { IsSpecWithin spec.now }
     ensures { IsWorkFootprint area.now spec.now.clip spec.now.work result }
@@ -123,14 +134,8 @@ fn of_spec(spec: &Spec, area: &WorldBox) -> Footprint
             reads: nothing(),
             writes: single(at, area),
         },
-        Work::Undo { .. } => Footprint {
-            reads: nothing(),
-            writes: nothing(),
-        },
-        Work::Redo { .. } => Footprint {
-            reads: nothing(),
-            writes: nothing(),
-        },
+        Work::Undo { .. } => untouched(),
+        Work::Redo { .. } => untouched(),
     }
 }
 
@@ -141,13 +146,7 @@ pub(crate) fn footprint_of(step: &Step, area: &WorldBox) -> Footprint
 {
     match step {
         Step::Job(spec) => of_spec(spec, area),
-        Step::Settled => Footprint {
-            reads: nothing(),
-            writes: nothing(),
-        },
-        Step::Refused(_) => Footprint {
-            reads: nothing(),
-            writes: nothing(),
-        },
+        Step::Settled => untouched(),
+        Step::Refused(_) => untouched(),
     }
 }

@@ -11,6 +11,10 @@ mod footprint;
 mod frame;
 mod listing;
 mod marks;
+mod plan;
+mod plan_fault;
+mod planned;
+mod players;
 mod reach;
 mod rectangle;
 mod shared;
@@ -19,3 +23,6 @@ mod stacking;
 mod writes;
 
 pub use memory::Memory;
+pub use plan::Plan;
+pub use plan_fault::PlanFault;
+pub use planned::Planned;

@@ -8,9 +8,10 @@ ghost use Rattle.run_terms.specs.Limits.{IsWithinLimits};
 ghost use Rattle.run_terms.specs.Workload.{workload_of};
 ghost use Rattle.command_plan.specs.Plan.{PlanView, plan_of, planned_in, jobs_of, most_jobs, Tells};
 
+use crate::cutting::floor_of;
 use crate::plan_fault::PlanFault;
 use crate::planned::Planned;
-use crate::players::{all_accesses, all_courses, all_planned, floor_of, no_marks};
+use crate::players::{all_accesses, all_courses, all_planned, no_marks};
 use edit_terms::{Case, Source, WorldBox};
 use std::alloc::Global;
 use std::marker::Model;

@@ -40,16 +40,33 @@ fn keep_edits(keeps: &mut [bool], edits: &[u32])
     }
 }
 
+/// Notes all edits that these commands take.
+fn keep_all(keeps: &mut [bool], steps: &[Step])
+    requires many { length keeps.old ≡ length steps.now }
+    requires earlier { AreOfEarlier steps.now }
+    ensures { (k : ℕ) → get_or keeps.new k false ≡ (get_or keeps.old k false || is_taken steps.now k) }
+{
+    for step in steps {
+        keep_edits(keeps, edits_of(step));
+    }
+}
+
+/// So many times no.
+pub(crate) fn all_false(alloc: Global, count: usize) -> Result<Vec<bool>, Memory>
+    ensures many { IfOk result (λ tests. length tests.items ≡ count) }
+    ensures each { IfOk result (λ tests. (k : ℕ) → get_or tests.items k false ≡ false) }
+{
+    Ok(vec![in alloc; false; count]?)
+}
+
 /// For each command whether a command takes it.
 fn kept(alloc: Global, steps: &[Step]) -> Result<Vec<bool>, Memory>
     requires { AreOfEarlier steps.now }
     ensures many { IfOk result (λ keeps. length keeps.items ≡ length steps.now) }
-    ensures each { IfOk result (λ keeps. (n : ℕ) → get_or keeps.items n false ≡ is_taken steps.now n) }
+    ensures each { IfOk result (λ keeps. (k : ℕ) → get_or keeps.items k false ≡ is_taken steps.now k) }
 {
-    let mut keeps = vec![in alloc; false; steps.len()]?;
-    for step in steps {
-        keep_edits(&mut keeps, edits_of(step));
-    }
+    let mut keeps = all_false(alloc, steps.len())?;
+    keep_all(&mut keeps, steps);
     Ok(keeps)
 }
 

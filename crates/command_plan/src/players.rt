@@ -1,6 +1,6 @@
 //! The players of a workload.
 
-ghost use Rattle.std.specs.Prelude.{◌≡◌, ℕ, ◌*◌, ◌≤◌, IfOk, length, map};
+ghost use Rattle.std.specs.Prelude.{◌≡◌, ℕ, ◌*◌, ◌<◌, ◌≤◌, IfOk, length, map};
 ghost use Rattle.std.specs.List.{range_with_len};
 ghost use Rattle.edit_terms.specs.Area.{Area};
 ghost use Rattle.run_terms.specs.Access.{accesses_of};
@@ -11,10 +11,10 @@ ghost use Rattle.command_plan.specs.Plan.{planned_by};
 ghost use Rattle.command_plan.specs.Rectangles.{floor_of, IsFloor};
 
 use crate::course::{Course, resolved};
-use crate::planned::{Planned, planned_course};
+use crate::planned::{Planned, all_false, planned_course};
 use crate::rectangle::Floor;
 use crate::writes::accesses;
-use edit_terms::{Case, WorldBox};
+use edit_terms::Case;
 use memory::Memory;
 use std::alloc::Global;
 
@@ -23,7 +23,7 @@ pub(crate) fn no_marks(alloc: Global, floor: &Floor) -> Result<Vec<bool>, Memory
     requires { IsFloor floor.now }
     ensures { IfOk result (λ marks. length marks.items ≡ floor.now.columns * floor.now.rows) }
 {
-    Ok(vec![in alloc; false; (floor.columns * floor.rows) as usize]?)
+    all_false(alloc, (floor.columns * floor.rows) as usize)
 }
 
 /// The commands of a player.

@@ -1,6 +1,6 @@
 //! Boxes that are moved or stacked.
 
-ghost use Rattle.std.specs.Prelude.{◌≡◌, ℕ, ℤ, ◌*◌, ◌≤◌, pos, ◌+ℤ◌, ◌-ℤ◌, ◌*ℤ◌};
+ghost use Rattle.std.specs.Prelude.{◌≡◌, ℕ, ℤ, ◌*◌, ◌≤◌, pos, ◌+ℤ◌, ◌-ℤ◌, nat_abs};
 ghost use Rattle.edit_terms.specs.Area.{Area};
 ghost use Rattle.run_terms.specs.Access.{moved_box};
 ghost use Rattle.command_plan.specs.Extents.{IsExtent, IsNear, IsFrame, IsFrameNear};
@@ -70,40 +70,48 @@ pub(crate) fn moved(frame: &Frame, to: Direction, count: u32) -> Frame
     }
 }
 
-/// The end of so many copies that lie one behind the other.
-fn end_behind(e: &Extent, count: u32) -> i64
-    requires near { IsNear e.now }
-    requires few { count ≤ 1000 }
-    ensures { result ≡ e.now.to +ℤ (e.now.to -ℤ e.now.from) *ℤ pos count }
+fn size_of(e: &Extent) -> u64
+    requires { IsNear e.now }
+    ensures value { result ≡ nat_abs (e.now.to -ℤ e.now.from) }
+    ensures small { result ≤ 137438953472 }
 {
-    e.to + (e.to - e.from) * i64::from(count)
+    (e.to - e.from) as u64
 }
 
-/// The start of so many copies that lie one before the other.
-fn start_before(e: &Extent, count: u32) -> i64
+/// How many coordinates so many copies have.
+fn size_of_copies(e: &Extent, count: u32) -> u64
     requires near { IsNear e.now }
     requires few { count ≤ 1000 }
-    ensures { result ≡ e.now.from -ℤ (e.now.to -ℤ e.now.from) *ℤ pos count }
+    ensures value { result ≡ count * nat_abs (e.now.to -ℤ e.now.from) }
+    ensures small { result ≤ 137438953472000 }
 {
-    e.from - (e.to - e.from) * i64::from(count)
+    u64::from(count) * size_of(e)
 }
 
+/// What so many copies fill that lie one behind the other.
 fn stacked_onward(e: &Extent, count: u32) -> Extent
     requires near { IsNear e.now }
     requires few { count ≤ 1000 }
     ensures { (low : ℤ) (size : ℕ) → IsExtent e.now low size → IsExtent result (low +ℤ pos size) (count * size) }
 {
-    let to = end_behind(e, count);
-    Extent { from: e.to, to }
+    let far = size_of_copies(e, count);
+    Extent {
+        from: e.to,
+        to: e.to + far as i64,
+    }
 }
 
+/// What so many copies fill that lie one before the other.
 fn stacked_backward(e: &Extent, count: u32) -> Extent
     requires near { IsNear e.now }
     requires few { count ≤ 1000 }
     ensures { (low : ℤ) (size : ℕ) → IsExtent e.now low size → IsExtent result (low -ℤ pos (count * size)) (count * size) }
 {
-    let from = start_before(e, count);
-    Extent { from, to: e.from }
+    let far = size_of_copies(e, count);
+    Extent {
+        from: e.from - far as i64,
+        to: e.from,
+    }
 }
 
 /// What the copies of a stack fill: they lie side by side.

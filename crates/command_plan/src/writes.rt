@@ -16,6 +16,7 @@ use memory::Memory;
 use std::alloc::Global;
 
 /// How many chunks a command writes. The marks are of no use behind the call.
+#[tactic(auto, using(crate::proofs::WriteLemmas::alone, crate::proofs::WriteLemmas::marked_is))]
 fn written_size(
     marks: &mut [bool],
     floor: &Floor,
@@ -38,6 +39,7 @@ fn written_size(
 }
 
 /// The chunks that a command writes, by rising index. The marks are of no use behind the call.
+#[tactic(auto, using(crate::proofs::WriteLemmas::alone, crate::proofs::WriteLemmas::marked_is))]
 pub(crate) fn written_chunks(
     alloc: Global,
     marks: &mut [bool],
@@ -60,6 +62,28 @@ pub(crate) fn written_chunks(
     marked_chunks(alloc, marks)
 }
 
+/// How many accesses a command has.
+#[tactic(auto, using(crate::proofs::WriteLemmas::writes_read))]
+fn command_accesses(
+    marks: &mut [bool],
+    floor: &Floor,
+    steps: &[Step],
+    footprints: &[Footprint],
+    number: u32,
+) -> u64
+    requires floor { IsFloor floor.now }
+    requires sound { IsSound floor.now steps.now footprints.now }
+    requires number { number < length steps.now }
+    requires marks { length marks.old ≡ floor.now.columns * floor.now.rows }
+    ensures value { result ≡ jobs_at floor.now steps.now footprints.now number }
+    ensures small { result ≤ 8589934590 }
+{
+    let reads = spread_size(floor, &footprints[number as usize].reads);
+    let taken = edits_of(&steps[number as usize]);
+    let writes = written_size(marks, floor, footprints, number, taken);
+    u64::from(reads) + u64::from(writes)
+}
+
 /// How many accesses a player's commands have.
 pub(crate) fn accesses(
     marks: &mut [bool],
@@ -72,14 +96,11 @@ pub(crate) fn accesses(
     requires few { length steps.now ≤ 10000 }
     requires marks { length marks.old ≡ floor.now.columns * floor.now.rows }
     ensures value { result ≡ sum_by (jobs_at floor.now steps.now footprints.now) (range_with_len 0 (length steps.now)) }
-    ensures small { result ≤ 335708180000 }
+    ensures small { result ≤ 42949672950000 }
 {
     let mut sum = 0;
     for number in 0..steps.len() as u32 {
-        let reads = spread_size(floor, &footprints[number as usize].reads);
-        let taken = edits_of(&steps[number as usize]);
-        let writes = written_size(marks, floor, footprints, number, taken);
-        sum += u64::from(reads) + u64::from(writes);
+        sum += command_accesses(marks, floor, steps, footprints, number);
     }
     sum
 }

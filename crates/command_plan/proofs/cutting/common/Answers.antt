@@ -1,6 +1,6 @@
-use Rattle.std.proofs.Common.{◌≡◌, ◌≤ℤ◌, ◌<ℤ◌, arith}
-use Rattle.std.specs.Int.{int_min, int_max}
-use Rattle.std.proofs.lemmas.Int.{ints}
+use Rattle.std.proofs.Common.{rules, ◌≡◌, ◌∙◌, ◌-ℤ◌, ◌≤ℤ◌, ◌<ℤ◌, ℤ, pos, ap, FitsSigned, arith}
+use Rattle.std.specs.Int.{w64, int_min, int_max}
+use Rattle.std.proofs.lemmas.Int.{ints, to_z-of_z}
 use Rattle.command_plan.proofs.CutLemmas.{common_none, common_some}
 use Rattle.command_plan.proofs.cutting.common.Goals as goal
 
@@ -15,5 +15,13 @@ returns-clause-common c a m b n first second =
     let e = c.args.frame.now in let f = c.args.own.now in
     let some : int_max e.from f.from <ℤ int_min e.to f.to = grind (arith, ints) in
     let is = common_some e f a m b n first second some in
-    let start = is.first in let end = is.last in
-    record { some = is.some; from = grind (arith, ints, start); last = grind (arith, ints, end) }
+    let start = is.first in
+    let end = c.min-to.result in
+    let fits : FitsSigned w64 end = search rules in
+    let less : FitsSigned w64 (end -ℤ pos 1) = first_of (search rules, grind (arith, ints)) in
+    let inner = to_z-of_z w64 end fits in
+    record {
+      some = is.some;
+      from = grind (arith, ints, start);
+      last = rw inner (to_z-of_z w64 (end -ℤ pos 1) less ∙ ap (λ (v : ℤ). v -ℤ pos 1) c.min-to.ensures.value ∙ is.last);
+    }

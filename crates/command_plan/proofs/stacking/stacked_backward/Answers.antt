@@ -1,10 +1,10 @@
-use Rattle.std.proofs.Common.{◌≡◌, ◌∙◌, ◌*◌, ◌+ℤ◌, ◌-ℤ◌, pos, sym, arith}
+use Rattle.std.proofs.Common.{◌≡◌, ◌*◌, ◌∙◌, arith}
 use Rattle.std.proofs.lemmas.Int.{ints}
-use Rattle.command_plan.proofs.StackLemmas.{stacked_before, back_again}
+use Rattle.command_plan.proofs.StackLemmas.{copies_size}
 use Rattle.command_plan.proofs.stacking.stacked_backward.Goals as goal
 
 pub returns : goal.returns
 returns c = λ low size is.
-    let from = c.start_before-from.ensures ∙ stacked_before c.args.e.now low size c.args.count is in
-    let to = is.from ∙ back_again low (c.args.count * size) in
-    record { from = from; to = grind (arith, ints, to) }
+    let far : c.size_of_copies-far.result ≡ c.args.count * size = c.size_of_copies-far.ensures.value ∙ copies_size c.args.e.now low size c.args.count is in
+    let start = is.from in let end = is.to in
+    record { from = grind (arith, ints, start, far); to = grind (arith, ints, start, far) }

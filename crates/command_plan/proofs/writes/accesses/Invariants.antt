@@ -1,4 +1,4 @@
-use Rattle.std.proofs.Common.{◌≡◌, ◌*◌, ◌≤◌, length}
+use Rattle.std.proofs.Common.{◌≡◌, ◌*◌, ◌≤◌}
 use Rattle.std.specs.Prelude.{sum_by}
 use Rattle.std.specs.List.{range_with_len}
 use Rattle.command_plan.specs.Courses.{jobs_at}
@@ -8,5 +8,5 @@ use Rattle.command_plan.proofs.writes.accesses.Given as goal
 abbrev pub invariant-loop-number : goal.invariant-loop-number
 invariant-loop-number l = record {
   sum_is : l.sum ≡ sum_by (jobs_at l.floor l.steps l.footprints) (range_with_len 0 l.number);
-  small : l.sum ≤ l.number * 33570818;
+  small : l.sum ≤ l.number * 4294967295 + l.number * 4294967295;
 }
