@@ -15,3 +15,5 @@ pub mod CourseLemmas
 pub mod WriteLemmas
 pub mod KeepLemmas
 pub mod PlanLemmas
+pub mod LimitLemmas
+pub mod LawLemmas

@@ -1,9 +1,13 @@
 -- The plan of the players' courses is the plan of the workload.
-use Rattle.std.proofs.Common.{◌≡◌, ℕ, zero, suc, ◌+◌, ◌-◌, ◌<◌, ◌≤◌, eqb, Bool, ◌||◌, List, [], ◌∷◌, ◌++◌, length, map, get_or, refl, sym, ◌∙◌, ap, subst, arith}
+use Rattle.std.proofs.Common.{◌≡◌, ℕ, zero, suc, ◌+◌, ◌-◌, ◌<◌, ◌≤◌, eqb, ◌⊎◌, inl, inr, Bool, ◌||◌, List, [], ◌∷◌, ◌++◌, length, map, get_or, refl, sym, ◌∙◌, ap, subst, arith}
 use Rattle.std.specs.Prelude.{sum_by}
 use Rattle.std.specs.List.{list_any, range_with_len}
+use Rattle.std.proofs.lemmas.Bool.{cases_lt}
+use Rattle.std.proofs.lemmas.List.{length-append, get_or_append_left, get_or_push}
+use Rattle.std.proofs.lemmas.List.FromFn.{sum_by-map-range_with_len_more}
+use Rattle.std.proofs.Math.Seq.{get_or-append_seam}
 use Rattle.edit_terms.specs.declared.step.Step.{Step}
-use Rattle.run_terms.specs.Access.{records_changes, accesses_of_player}
+use Rattle.run_terms.specs.Access.{records_changes, accesses_of_player, accesses_of}
 use Rattle.run_terms.specs.Fold.{edits_taken_by}
 use Rattle.run_terms.specs.Order.{lines_of}
 use Rattle.run_terms.specs.Session.{step_of_line}
@@ -12,9 +16,9 @@ use Rattle.run_terms.proofs.Lists.{map-range_agrees}
 use Rattle.command_plan.specs.declared.course.Course.{Course}
 use Rattle.command_plan.specs.declared.planned.Planned.{Planned}
 use Rattle.command_plan.specs.Courses.{edits_at, keeps_at, jobs_at, IsSound}
-use Rattle.command_plan.specs.Plan.{planned_of, planned_by}
+use Rattle.command_plan.specs.Plan.{planned_of, planned_by, plan_of, jobs_of_command, jobs_of_player, jobs_of}
 use Rattle.command_plan.specs.PlannedCourses.{planned_at}
-use Rattle.command_plan.specs.Players.{IsCourse}
+use Rattle.command_plan.specs.Players.{IsCourse, AreCourses}
 use Rattle.command_plan.specs.Rectangles.{floor_of}
 use Rattle.command_plan.proofs.PlayerLemmas.{count, sound, step_is, reads_are, writes_are, jobs_are}
 use Rattle.command_plan.proofs.WriteLemmas.{sum_more}
@@ -73,3 +77,53 @@ module _ (case : Workload) (player : ℕ) (course : Course) (is : IsCourse case 
       ap (λ (n : ℕ). map (planned_at (floor_of case.opening.area) course.steps.items course.footprints.items) (range_with_len 0 n)) course_count
       ∙ map-range_agrees (planned_at (floor_of case.opening.area) course.steps.items course.footprints.items) (λ n. planned_of case (record { player = player; step = n })) 0
       (length (lines_of case.scripts player)) (length (lines_of case.scripts player)) (omega arith) planned_is
+
+-- ---- how many accesses
+
+sum_of_map : {X : Type 0} (f : X → ℕ) (g : ℕ → X) (n : ℕ) → sum_by f (map g (range_with_len 0 n)) ≡ sum_by (λ k. f (g k)) (range_with_len 0 n)
+sum_of_map f g zero = refl
+sum_of_map f g (suc n) =
+    let next : suc n ≡ n + 1 = omega arith in
+    ap (λ (m : ℕ). sum_by f (map g (range_with_len 0 m))) next
+    ∙ sum_by-map-range_with_len_more f g 0 n n (omega arith)
+    ∙ ap (λ (m : ℕ). m + f (g n)) (sum_of_map f g n)
+    ∙ sym (sum_more (λ k. f (g k)) n)
+    ∙ ap (λ (m : ℕ). sum_by (λ k. f (g k)) (range_with_len 0 m)) (sym next)
+
+-- the accesses of the plan are those of the workload
+pub plan_jobs : (case : Workload) → jobs_of (plan_of case) ≡ accesses_of case
+plan_jobs case =
+    sum_of_map jobs_of_player (planned_by case) (length case.scripts)
+    ∙ sum_range_agrees (λ p. jobs_of_player (planned_by case p)) (accesses_of_player case) (length case.scripts)
+    (λ p below. sum_of_map jobs_of_command (λ n. planned_of case (record { player = p; step = n })) (length (lines_of case.scripts p)))
+
+-- ---- the courses of all players
+
+pub courses_more : (case : Workload) (k : ℕ) (course : Course) (courses more : List Course) → AreCourses case k courses → IsCourse case k course → more ≡ courses ++ course ∷ [] → AreCourses case (k + 1) more
+courses_more case k course courses more are is same =
+    subst (λ (cs : List Course). AreCourses case (k + 1) cs) (sym same) (record {
+      many = length-append courses (course ∷ []) ∙ ap (λ (n : ℕ). n + 1) are.many;
+      each = λ player d below. by_place player d below (cases_lt player k);
+    })
+  where
+    by_place : (player : ℕ) (d : Course) → player < k + 1 → (player < k) ⊎ (k ≤ player) → IsCourse case player (get_or (courses ++ course ∷ []) player d)
+    by_place player d below (inl earlier) =
+        let many = are.many in
+        subst (λ (c : Course). IsCourse case player c) (sym (get_or_append_left courses (course ∷ []) d player (omega (arith, earlier, many)))) (are.each player d earlier)
+    by_place player d below (inr last) =
+        let many = are.many in
+        let here : player ≡ k = omega (arith, below, last) in
+        subst (λ (c : Course). IsCourse case player c) (sym (get_or_push courses course d player (omega (arith, many, here)))) (subst (λ (p : ℕ). IsCourse case p course) (sym here) is)
+
+-- a course that is taken from the list of all
+pub record IsKnown (case : Workload) (count k : ℕ) (course : Course) : Type 0 where
+  pub below : k < count
+  pub is : IsCourse case k course
+
+pub course_known : (case : Workload) (count : ℕ) (courses front : List Course) (course : Course) (rest : List Course) → AreCourses case count courses → courses ≡ front ++ (course ∷ rest) → IsKnown case count (length front) course
+course_known case count courses front course rest are parts =
+    let many = are.many in
+    let long : length courses ≡ length front + length (course ∷ rest) = ap (λ (cs : List Course). length cs) parts ∙ length-append front (course ∷ rest) in
+    let below : length front < count = omega (arith, many, long) in
+    let at : get_or courses (length front) course ≡ course = ap (λ (cs : List Course). get_or cs (length front) course) parts ∙ get_or-append_seam front course rest course in
+    record { below = below; is = subst (λ (d : Course). IsCourse case (length front) d) at (are.each (length front) course below) }

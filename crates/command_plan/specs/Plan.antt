@@ -61,3 +61,8 @@ pub record HasTooMany (case : Workload) (jobs : ℕ) : Type 0 where
 abbrev pub Tells : Workload → PlanFault → Type 0
 Tells case (TooManyJobs jobs) = HasTooMany case jobs
 Tells case _ = ⊤
+
+-- Where two workloads have one box and one depth, and a player has one script in both, the same is planned for it.
+abbrev pub DependsOnTheScript : Workload → Workload → ℕ → Type 0
+DependsOnTheScript a b player =
+    a.opening.area ≡ b.opening.area → a.depth ≡ b.depth → lines_of a.scripts player ≡ lines_of b.scripts player → planned_by a player ≡ planned_by b player

@@ -9,6 +9,7 @@ mod cutting;
 mod extent;
 mod footprint;
 mod frame;
+mod laws;
 mod listing;
 mod marks;
 mod plan;
@@ -23,6 +24,7 @@ mod stacking;
 mod writes;
 
 pub use memory::Memory;
+pub use laws::plans_depend_on_the_script;
 pub use plan::Plan;
 pub use plan_fault::PlanFault;
 pub use planned::Planned;

@@ -11,7 +11,7 @@ ghost use Rattle.command_plan.specs.Plan.{PlanView, plan_of, planned_in, jobs_of
 use crate::cutting::floor_of;
 use crate::plan_fault::PlanFault;
 use crate::planned::Planned;
-use crate::players::{all_accesses, all_courses, all_planned, no_marks};
+use crate::players::{all_accesses, all_courses, all_planned};
 use edit_terms::{Case, Source, WorldBox};
 use std::alloc::Global;
 use std::marker::Model;
@@ -39,6 +39,7 @@ impl Model for Plan {
 impl Plan {
     /// The plan of a workload within the limits. TooManyJobs exactly where its commands have more than
     /// 16,777,216 accesses, which is found before any list is built, and then with their number.
+    #[tactic(auto, using(crate::proofs::PlanLemmas::plan_jobs))]
     pub fn plan(alloc: Global, case: &Case) -> Result<Plan, PlanFault>
         requires { IsWithinLimits (workload_of case.now) }
         ensures plan { IfOk result (λ plan. plan ≡ plan_of (workload_of case.now)) }
@@ -47,13 +48,12 @@ impl Plan {
     {
         let area = *case.opening.area();
         let floor = floor_of(&area);
-        let mut marks = no_marks(alloc, &floor)?;
         let courses = all_courses(alloc, case)?;
-        let jobs = all_accesses(case, &mut marks, &floor, &courses);
+        let jobs = all_accesses(alloc, case, &floor, &courses)?;
         if jobs > 16_777_216 {
             return Err(PlanFault::TooManyJobs { jobs });
         }
-        let players = all_planned(alloc, case, &mut marks, &floor, courses)?;
+        let players = all_planned(alloc, case, &floor, courses)?;
         Ok(Plan {
             area,
             seed: case.seed,

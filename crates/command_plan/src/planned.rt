@@ -71,7 +71,7 @@ fn kept(alloc: Global, steps: &[Step]) -> Result<Vec<bool>, Memory>
 }
 
 /// What is planned for a command of this place.
-fn planned(
+fn plan_command(
     alloc: Global,
     marks: &mut [bool],
     floor: &Floor,
@@ -112,7 +112,14 @@ pub(crate) fn planned_course(
 {
     let Course { steps, footprints } = course;
     let keeps = kept(alloc, &steps)?;
-    planned_steps(alloc, marks, floor, &footprints, &keeps, steps)
+    Ok(planned_steps(
+        alloc,
+        marks,
+        floor,
+        &footprints,
+        &keeps,
+        steps,
+    )?)
 }
 
 fn planned_steps(
@@ -134,7 +141,7 @@ fn planned_steps(
     let mut number = 0;
     for step in steps {
         let keep = keeps[number as usize];
-        commands.push(planned(alloc, marks, floor, footprints, number, step, keep)?)?;
+        commands.push(plan_command(alloc, marks, floor, footprints, number, step, keep)?)?;
         number += 1;
     }
     Ok(commands)

@@ -3,7 +3,7 @@ use Rattle.std.specs.List.{range_with_len}
 use Rattle.std.specs.Vec.Iter.{into_iter_items}
 use Rattle.run_terms.specs.Workload.{workload_of}
 use Rattle.command_plan.specs.Plan.{planned_by}
-use Rattle.command_plan.proofs.players.all_planned.Given as goal
+use Rattle.command_plan.proofs.players.plan_courses.Given as goal
 
 -- the players passed are planned
 abbrev pub invariant-loop-course : goal.invariant-loop-course
