@@ -125,4 +125,3 @@ few_columns low size h =
   where
     few : (cl ce low : ℤ) (size : ℕ) → size ≤ 65535 → cl ≤ℤ ce → low <ℤ (cl *ℤ pos 16 +ℤ pos 16) → (ce *ℤ pos 16) ≤ℤ (low +ℤ pos (size - 1)) → nat_abs (ce -ℤ cl) + 1 ≤ 4097
     few cl ce low size h order a b = grind (arith, ints)
-

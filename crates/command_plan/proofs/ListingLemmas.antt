@@ -183,4 +183,3 @@ spread_size floor s both exact =
 -- a number of the range more
 pub filter_more : (test : ℕ → Bool) (a n k : ℕ) → a + n ≡ k → filter test (range_with_len a (n + 1)) ≡ filter test (range_with_len a n) ++ cond (test k) (k ∷ []) []
 filter_more test a n k is = filter_split test a n 1 ∙ ap (λ (j : ℕ). filter test (range_with_len a n) ++ cond (test j) (j ∷ []) []) is
-

@@ -95,4 +95,3 @@ counted_within s t (Some r) old new = record { place = old.place; clip = old.cli
 
 pub session_within : (s : Session) (command : Command) → IsSessionWithin s → is_command_within command ≡ true → IsSessionWithin (after_command s command)
 session_within s command h c = counted_within s (with_command s command) (refusal_of s command) h (with_command_within s command h c)
-

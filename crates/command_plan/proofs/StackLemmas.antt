@@ -27,6 +27,9 @@ copies_size e low size count is =
     counted : (low : ℤ) (size : ℕ) → nat_abs ((low +ℤ pos size) -ℤ low) ≡ size
     counted low size = grind (arith, ints)
 
+pub back_again : (low : ℤ) (far : ℕ) → low ≡ (low -ℤ pos far) +ℤ pos far
+back_again low far = omega (arith, ints)
+
 -- a copy of a stack
 record IsCopy (count i : ℕ) : Type 0 where
   from : 1 ≤ i

@@ -11,8 +11,8 @@ ghost use Rattle.run_terms.specs.Access.{single_box};
 ghost use Rattle.command_plan.specs.Extents.{IsExtent, IsFrame, IsFrameNear};
 
 use crate::extent::{
-    Extent, around_x, around_y, around_z, between_x, between_y, between_z, onward_x,
-    onward_y, onward_z,
+    Extent, around_x, around_y, around_z, between_x, between_y, between_z, onward_x, onward_y,
+    onward_z,
 };
 use crate::reach::{cylinder_reach, sphere_reach};
 use clipboard_transform::RelativeBox;

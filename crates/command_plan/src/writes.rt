@@ -96,7 +96,7 @@ pub(crate) fn accesses(
     requires few { length steps.now ≤ 10000 }
     requires marks { length marks.old ≡ floor.now.columns * floor.now.rows }
     ensures value { result ≡ sum_by (jobs_at floor.now steps.now footprints.now) (range_with_len 0 (length steps.now)) }
-    ensures small { result ≤ 42949672950000 }
+    ensures small { result ≤ 85899345900000 }
 {
     let mut sum = 0;
     for number in 0..steps.len() as u32 {

@@ -2,7 +2,7 @@ use Rattle.std.proofs.Common.{◌≡◌, ◌≤◌, ◌⊎◌, inl, inr, ℕ, ar
 use Rattle.command_plan.proofs.rectangle.hull_run.Goals as goal
 
 hull_end : (at bt t whole : ℕ) → (t ≡ at) ⊎ (t ≡ bt) → at ≤ whole → bt ≤ whole → t ≤ whole
-hull_end at bt t whole one a b = elim one as (λ _. t ≤ whole) [ | inl e ↦ omega (arith, e, a) | inr e ↦ omega (arith, e, b) ]
+hull_end at bt t whole one a b = elim one as (λ _. t ≤ whole) [ inl e ↦ omega (arith, e, a) | inr e ↦ omega (arith, e, b) ]
 
 pub returns-clause-within : goal.returns-clause-within
 returns-clause-within c = λ whole first second.

@@ -9,6 +9,6 @@ loop-number-preserved c =
     let more = sum_more (jobs_at c.args.floor.now c.args.steps.now c.args.footprints.now) number in
     let before = c.loop-number.invariant.sum_is in
     let few = c.loop-number.invariant.small in
-    let here = c.command_accesses.ensures.value in
-    let small = c.command_accesses.ensures.small in
+    let here = c.command_accesses-sum.ensures.value in
+    let small = c.command_accesses-sum.ensures.small in
     record { sum_is = omega (arith, more, before, here); small = omega (arith, few, small) }
