@@ -13,3 +13,7 @@ pub mod CutLemmas
 pub mod PlayerLemmas
 pub mod CourseLemmas
 pub mod WriteLemmas
+pub mod KeepLemmas
+pub mod PlanLemmas
+pub mod LimitLemmas
+pub mod LawLemmas

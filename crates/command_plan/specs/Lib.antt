@@ -6,3 +6,6 @@ pub mod Within
 pub mod Footprints
 pub mod Courses
 pub mod Taken
+pub mod Plan
+pub mod Players
+pub mod PlannedCourses
