@@ -13,3 +13,4 @@ pub mod CutLemmas
 pub mod PlayerLemmas
 pub mod CourseLemmas
 pub mod WriteLemmas
+pub mod LawLemmas

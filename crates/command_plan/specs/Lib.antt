@@ -6,3 +6,4 @@ pub mod Within
 pub mod Footprints
 pub mod Courses
 pub mod Taken
+pub mod Plan
