@@ -42,13 +42,13 @@ loop-course-preserved c =
     let parts = sym c.loop-course.invariant.split ∙ ap (λ (cs : List Course). yielded ++ cs) c.in-Some.ensures.steps.0 in
     let known = course_known case (length case.scripts) c.args.courses.items yielded course rest c.requires.courses parts in
     let more : length (yielded ++ course ∷ []) ≡ k + 1 = length-append yielded (course ∷ []) in
-    let own : c.in_ok-planned_course.planned_course.items ≡ planned_by case k =
+    let own : c.in_ok-planned_course.field-0.items ≡ planned_by case k =
     c.in_ok-planned_course.ensures ∙ ap (λ (f : Floor). map (planned_at f course.steps.items course.footprints.items) (range_with_len 0 (length course.steps.items))) c.requires.floor ∙ course_planned case k course known.is in
     record {
       split = append_assoc yielded (course ∷ []) rest ∙ ap (λ (cs : List Course). yielded ++ cs) (sym c.in-Some.ensures.steps.0) ∙ c.loop-course.invariant.split;
       planned = ap (map (λ commands. commands.items)) c.in_ok-push.ensures.items
-          ∙ map-append (λ commands. commands.items) c.loop-course.players.items (c.in_ok-planned_course.planned_course ∷ [])
-          ∙ ap (λ (ps : List (List Planned)). ps ++ c.in_ok-planned_course.planned_course.items ∷ []) c.loop-course.invariant.planned
+          ∙ map-append (λ commands. commands.items) c.loop-course.players.items (c.in_ok-planned_course.field-0 ∷ [])
+          ∙ ap (λ (ps : List (List Planned)). ps ++ c.in_ok-planned_course.field-0.items ∷ []) c.loop-course.invariant.planned
           ∙ ap (λ (p : List Planned). map (planned_by case) (range_with_len 0 k) ++ p ∷ []) own
           ∙ sym (map-range_with_len_more (planned_by case) 0 k k (omega arith))
           ∙ ap (λ (n : ℕ). map (planned_by case) (range_with_len 0 n)) (sym more);
