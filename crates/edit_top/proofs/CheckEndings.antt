@@ -5,7 +5,7 @@ use Rattle.run_ports.specs.Store.{Files, StoreState}
 use Rattle.run_ports.specs.Output.{OutputState}
 use Rattle.sponge_schematic.specs.Schematic.{schematic_of}
 use Rattle.edit_top.specs.declared.status.Status.{Status}
-use Rattle.edit_top.specs.declared.status.Status.TheVariants.{Done, Usage, ReadFault, TooLong, WorldRefused, ScriptRefused, DuplicatePlayer, SaveFault, PrintFault, OutOfMemory}
+use Rattle.edit_top.specs.declared.status.Status.TheVariants.{Done, Usage, ReadFault, TooLong, WorldRefused, ScriptRefused, DuplicatePlayer, TooManyJobs, SaveFault, PrintFault, OutOfMemory}
 use Rattle.edit_top.specs.Words.{FileNames}
 use Rattle.edit_top.specs.Status.{fault_text}
 use Rattle.edit_top.specs.Reading.{IsWorldCause, world_limit}
@@ -51,6 +51,7 @@ module _ (words : List (List ℕ)) (names : FileNames) (named : AreNamed words n
       by_status (WorldRefused fault) p = absurd p
       by_status (ScriptRefused script fault) p = absurd p
       by_status (DuplicatePlayer script) p = absurd p
+      by_status (TooManyJobs jobs) p = absurd p
       by_status SaveFault p = absurd p
       by_status OutOfMemory p = absurd p
 
@@ -70,6 +71,7 @@ module _ (words : List (List ℕ)) (names : FileNames) (named : AreNamed words n
       by_status (WorldRefused fault) cause message = stopped (WorldRefused fault) cause message
       by_status (ScriptRefused script fault) cause message = stopped (ScriptRefused script fault) cause message
       by_status (DuplicatePlayer script) cause message = stopped (DuplicatePlayer script) cause message
+      by_status (TooManyJobs jobs) cause message = stopped (TooManyJobs jobs) cause message
       by_status SaveFault cause message = stopped SaveFault cause message
       by_status OutOfMemory cause message = stopped OutOfMemory cause message
 
@@ -97,6 +99,7 @@ check_ends_well words before after shown told status ends good steady = by_statu
     by_cause (WorldRefused fault) cause = absurd (not_refused before.files good.files good.name world_limit schematic_of good.loaded fault good.tells good.world cause)
     by_cause (ScriptRefused script fault) cause = absurd cause
     by_cause (DuplicatePlayer script) cause = absurd cause
+    by_cause (TooManyJobs jobs) cause = absurd cause
     by_cause SaveFault cause = absurd cause
     by_cause PrintFault cause = absurd cause
     by_cause OutOfMemory cause = tt
@@ -113,6 +116,7 @@ check_ends_well words before after shown told status ends good steady = by_statu
     by_status (WorldRefused fault) ends = by_cause (WorldRefused fault) (cause_here (WorldRefused fault) ends)
     by_status (ScriptRefused script fault) ends = by_cause (ScriptRefused script fault) (cause_here (ScriptRefused script fault) ends)
     by_status (DuplicatePlayer script) ends = by_cause (DuplicatePlayer script) (cause_here (DuplicatePlayer script) ends)
+    by_status (TooManyJobs jobs) ends = by_cause (TooManyJobs jobs) (cause_here (TooManyJobs jobs) ends)
     by_status SaveFault ends = by_cause SaveFault (cause_here SaveFault ends)
     by_status OutOfMemory ends = tt
 
@@ -127,5 +131,6 @@ check_is_no_failure words before after shown told (TooLong file) ends steady = t
 check_is_no_failure words before after shown told (WorldRefused fault) ends steady = tt
 check_is_no_failure words before after shown told (ScriptRefused script fault) ends steady = tt
 check_is_no_failure words before after shown told (DuplicatePlayer script) ends steady = tt
+check_is_no_failure words before after shown told (TooManyJobs jobs) ends steady = tt
 check_is_no_failure words before after shown told SaveFault ends steady = absurd ends.cause
 check_is_no_failure words before after shown told OutOfMemory ends steady = tt
