@@ -13,3 +13,4 @@ pub mod PlayerNames
 pub mod ReadNames
 pub mod ShownOrder
 pub mod CheckEndings
+pub mod Stops

@@ -102,6 +102,7 @@ pub(crate) struct Prepared<'a> {
 }
 
 /// Loads and reads the files, plans and runs the scripts, and makes all that is to be saved and printed.
+#[tactic(auto, using(crate::proofs::Stops::make_stops))]
 fn prepare<'a, F: Shelf>(
     alloc: Global,
     words: &RunWords<'a>,

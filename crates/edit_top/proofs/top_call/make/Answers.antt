@@ -1,10 +1,12 @@
-use Rattle.std.proofs.Common.{◌≡◌, ◌∷◌, [], List, ℕ, true, map, ap, sym, ◌∙◌, subst}
+use Rattle.std.proofs.Common.{◌≡◌, ◌≤◌, ◌∷◌, [], List, ℕ, true, map, ap, sym, ◌∙◌, subst}
 use Rattle.edit_terms.specs.declared.script.Case.{Case}
 use Rattle.edit_terms.specs.Area.{Area, is_world_box}
 use Rattle.edit_terms.specs.World.{World}
 use Rattle.edit_terms.proofs.AreaLemmas.{limits}
 use Rattle.run_terms.specs.Workload.{Workload, workload_of}
+use Rattle.run_terms.specs.Access.{accesses_of}
 use Rattle.run_terms.specs.Reply.{IsOutcome}
+use Rattle.command_plan.specs.Plan.{most_jobs}
 use Rattle.sponge_schematic.specs.File.{schematic_bytes}
 use Rattle.sponge_schematic.specs.Read.{loaded_of, IsWritable}
 use Rattle.edit_top.specs.Words.{asked_view}
@@ -32,10 +34,14 @@ returns c =
     let ran : IsOutcome start outcome = subst (λ (w : Workload). IsOutcome w outcome) is_start c.in_ok-outcome.ensures in
     let listed : c.in_ok-outputs.outputs.items ≡ record { name = c.args.words.now.names.out; bytes = c.in_ok-bytes.bytes } ∷ [] = c.in_ok-outputs.ensures.items in
     record {
-      order = outcome.order;
-      legal = ran.legal;
-      whole = ran.whole;
-      outputs = ap (map output_view) listed
-          ∙ ap (λ (bytes : List ℕ). (c.args.words.now.names.out.now, bytes) ∷ []) (c.in_ok-bytes.ensures ∙ ap (schematic_bytes c.args.world.carried) ran.world);
-      text = c.in_ok-text.ensures ∙ ap (λ (w : Workload). run_text w outcome.order) is_start;
+      made = record {
+        few = subst (λ (w : Workload). accesses_of w ≤ most_jobs) is_start c.in_ok-plan.ensures.few;
+        order = outcome.order;
+        legal = ran.legal;
+        whole = ran.whole;
+        outputs = ap (map output_view) listed
+            ∙ ap (λ (bytes : List ℕ). (c.args.words.now.names.out.now, bytes) ∷ []) (c.in_ok-bytes.ensures ∙ ap (schematic_bytes c.args.world.carried) ran.world);
+        text = c.in_ok-text.ensures ∙ ap (λ (w : Workload). run_text w outcome.order) is_start;
+      };
+      cause = tt;
     }
