@@ -17,3 +17,4 @@ pub mod KeepLemmas
 pub mod PlanLemmas
 pub mod LimitLemmas
 pub mod LawLemmas
+pub mod TestLemmas

@@ -112,14 +112,7 @@ pub(crate) fn planned_course(
 {
     let Course { steps, footprints } = course;
     let keeps = kept(alloc, &steps)?;
-    Ok(planned_steps(
-        alloc,
-        marks,
-        floor,
-        &footprints,
-        &keeps,
-        steps,
-    )?)
+    Ok(planned_steps(alloc, marks, floor, &footprints, &keeps, steps)?)
 }
 
 fn planned_steps(

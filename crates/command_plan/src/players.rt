@@ -68,12 +68,7 @@ fn course_accesses(marks: &mut [bool], floor: &Floor, course: &Course) -> u64
     accesses(marks, floor, &course.steps, &course.footprints)
 }
 
-fn sum_of_accesses(
-    case: &Case,
-    marks: &mut [bool],
-    floor: &Floor,
-    courses: &[Course],
-) -> u64
+fn sum_of_accesses(case: &Case, marks: &mut [bool], floor: &Floor, courses: &[Course]) -> u64
     requires limits { IsWithinLimits (workload_of case.now) }
     requires floor { floor.now ≡ floor_of (workload_of case.now).opening.area }
     requires whole { IsFloor floor.now }

@@ -1,4 +1,4 @@
-use Rattle.std.proofs.Common.{◌≡◌, ℕ, ◌+◌, ◌<◌, ◌≤◌, List, length, get_or, true, sym, subst, arith}
+use Rattle.std.proofs.Common.{◌≡◌, ℕ, ◌<◌, length, true, sym, subst, arith}
 use Rattle.edit_terms.specs.declared.script.Line.{Line}
 use Rattle.edit_terms.specs.declared.step.Step.{Step}
 use Rattle.run_terms.specs.Limits.{is_command_within}

@@ -1,4 +1,4 @@
-use Rattle.std.proofs.Common.{◌≡◌, ◌∙◌, ◌+◌, ◌-ℤ◌, pos, ap, ℕ, ℤ, arith}
+use Rattle.std.proofs.Common.{◌∙◌, ◌+◌, ap, ℕ, arith}
 use Rattle.std.proofs.lemmas.Int.{ints}
 use Rattle.command_plan.proofs.CutLemmas.{own_columns}
 use Rattle.command_plan.proofs.cutting.columns_along.Goals as goal

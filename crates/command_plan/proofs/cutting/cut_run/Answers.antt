@@ -1,4 +1,4 @@
-use Rattle.std.proofs.Common.{◌≡◌, ℕ, ◌+◌, ap, ◌∙◌}
+use Rattle.std.proofs.Common.{ℕ, ◌+◌, ap, ◌∙◌}
 use Rattle.edit_terms.specs.Frame.{common_count}
 use Rattle.command_plan.proofs.CutLemmas.{first_columns, last_columns}
 use Rattle.command_plan.proofs.cutting.cut_run.Goals as goal

@@ -1,4 +1,4 @@
-use Rattle.std.proofs.Common.{rules, ◌≡◌, ◌∙◌, ◌+ℤ◌, ap, pos, ℤ, FitsSigned}
+use Rattle.std.proofs.Common.{rules, ◌∙◌, ◌+ℤ◌, ap, ℤ, FitsSigned}
 use Rattle.std.proofs.lemmas.Int.{to_z-of_z}
 use Rattle.std.specs.Int.{w64}
 use Rattle.command_plan.proofs.FootprintLemmas.{placed_end}

@@ -1,4 +1,4 @@
-use Rattle.std.proofs.Common.{◌≡◌, ◌-◌, ◌*◌, ◌∙◌, sym, ap, arith, ℕ}
+use Rattle.std.proofs.Common.{◌-◌, ◌*◌, ◌∙◌, sym, ap, ℕ}
 use Rattle.command_plan.proofs.ListingLemmas.{rectangle_size}
 use Rattle.command_plan.proofs.listing.rectangle_size.Goals as goal
 

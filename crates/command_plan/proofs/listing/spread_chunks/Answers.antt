@@ -1,10 +1,7 @@
 use Rattle.std.proofs.Common.{◌≡◌, ℕ, ◌+◌, ◌-◌, ◌*◌, ◌++◌, List, sym, ap, ◌∙◌, arith}
 use Rattle.std.specs.Prelude.{filter}
 use Rattle.std.specs.List.{range_with_len}
-use Rattle.command_plan.specs.declared.rectangle.Floor.{Floor}
-use Rattle.command_plan.specs.declared.rectangle.Rectangle.{Rectangle}
-use Rattle.command_plan.specs.declared.rectangle.Spread.{Spread}
-use Rattle.command_plan.specs.Rectangles.{is_spread_over, IsInside}
+use Rattle.command_plan.specs.Rectangles.{is_spread_over}
 use Rattle.command_plan.proofs.ListingLemmas.{spread_bounded, rows_start, next_row, rows_end}
 use Rattle.command_plan.proofs.listing.spread_chunks.Goals as goal
 

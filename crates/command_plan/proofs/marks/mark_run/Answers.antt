@@ -1,4 +1,4 @@
-use Rattle.std.proofs.Common.{◌≡◌, ℕ, ◌||◌, ◌&&◌, Bool, false, get_or, ap, ◌∙◌, arith}
+use Rattle.std.proofs.Common.{◌≡◌, ℕ, ◌||◌, ◌&&◌, false, get_or, ap, ◌∙◌, arith}
 use Rattle.std.specs.Prelude.{nat_le, nat_lt}
 use Rattle.command_plan.proofs.marks.mark_run.Goals as goal
 

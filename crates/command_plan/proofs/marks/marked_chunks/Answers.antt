@@ -1,4 +1,4 @@
-use Rattle.std.proofs.Common.{◌≡◌, ℕ, ◌+◌, ◌++◌, Bool, false, cond, List, [], ◌∷◌, get_or, sym, ap, ◌∙◌, arith}
+use Rattle.std.proofs.Common.{ℕ, ◌++◌, false, cond, List, [], ◌∷◌, get_or, sym, ap, ◌∙◌, arith}
 use Rattle.command_plan.proofs.ListingLemmas.{filter_more}
 use Rattle.command_plan.proofs.marks.marked_chunks.Goals as goal
 

@@ -1,7 +1,6 @@
-use Rattle.std.proofs.Common.{◌≡◌, ℕ, ◌+◌, ◌<◌, ◌≤◌, ◌∙◌, ◌++◌, List, [], ◌∷◌, length, map, get_or, sym, subst, ap, append_assoc, arith}
+use Rattle.std.proofs.Common.{◌≡◌, ℕ, ◌+◌, ◌∙◌, ◌++◌, List, [], ◌∷◌, length, map, sym, subst, ap, append_assoc, arith}
 use Rattle.std.specs.List.{range_with_len}
 use Rattle.std.specs.Vec.Iter.{into_iter_items}
-use Rattle.std.proofs.Math.Seq.{get_or-append_seam}
 use Rattle.std.proofs.lemmas.List.{length-append, map-append}
 use Rattle.std.proofs.lemmas.List.FromFn.{map-range_with_len_more}
 use Rattle.run_terms.specs.Workload.{workload_of}
@@ -11,7 +10,6 @@ use Rattle.command_plan.specs.declared.rectangle.Floor.{Floor}
 use Rattle.command_plan.specs.Courses.{IsSound}
 use Rattle.command_plan.specs.Plan.{planned_by}
 use Rattle.command_plan.specs.PlannedCourses.{planned_at}
-use Rattle.command_plan.specs.Players.{IsCourse}
 use Rattle.command_plan.proofs.LimitLemmas.{few_lines}
 use Rattle.command_plan.proofs.PlanLemmas.{course_sound, course_count, course_planned, course_known}
 use Rattle.command_plan.proofs.players.plan_courses.Goals as goal

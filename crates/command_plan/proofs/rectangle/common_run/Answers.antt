@@ -1,4 +1,3 @@
-use Rattle.std.proofs.Common.{◌≡◌, arith}
 use Rattle.command_plan.proofs.RectangleLemmas.{common_test, common_order}
 use Rattle.command_plan.proofs.rectangle.common_run.Goals as goal
 

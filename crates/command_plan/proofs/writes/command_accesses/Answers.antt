@@ -1,7 +1,5 @@
-use Rattle.std.proofs.Common.{◌≡◌, ◌<◌, ℕ, ◌∷◌, List, length, subst, sym, ap, ◌∙◌}
+use Rattle.std.proofs.Common.{◌<◌, ℕ, List, length, subst, sym, ◌∙◌}
 use Rattle.std.specs.Prelude.{All}
-use Rattle.command_plan.specs.Courses.{edits_at, is_written, writes_at}
-use Rattle.command_plan.specs.Rectangles.{chunks_with}
 use Rattle.command_plan.proofs.WriteLemmas.{edits_read, taken_known}
 use Rattle.command_plan.proofs.writes.command_accesses.Goals as goal
 
