@@ -1,7 +1,7 @@
 -- How the parts of a check make its ending, and that good words and a world end well.
 use Rattle.std.proofs.Common.{◌≡◌, ℕ, zero, suc, List, Option, Some, None, Ok, refl, sym, ◌∙◌, subst}
 use Rattle.std.specs.Prelude.{option_map}
-use Rattle.run_ports.specs.Store.{Files, StoreState}
+use Rattle.run_ports.specs.Store.{StoreState}
 use Rattle.run_ports.specs.Output.{OutputState}
 use Rattle.sponge_schematic.specs.Schematic.{schematic_of}
 use Rattle.edit_top.specs.declared.status.Status.{Status}

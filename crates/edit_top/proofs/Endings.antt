@@ -12,7 +12,6 @@ use Rattle.edit_top.specs.Outputs.{output_view, AreSaved, StopsSaving}
 use Rattle.edit_top.specs.Ends.{workload, IsRunOf, IsTold, saved_file, IsStopCause, Ends}
 use Rattle.edit_top.specs.RunText.{run_text}
 use Rattle.edit_top.specs.ShownOrder.{order_shown}
-use Rattle.edit_top.specs.Reading.{IsCause}
 use Rattle.edit_top.specs.Status.{fault_text}
 use Rattle.edit_top.specs.Prepared.{IsPrepared, Finishes}
 use Rattle.edit_top.proofs.Messages.{rose_since}

@@ -1,7 +1,7 @@
 -- Why a run stopped before it saved.
-use Rattle.std.proofs.Common.{◌≡◌, ℕ, List, Option}
+use Rattle.std.proofs.Common.{List}
 use Rattle.edit_terms.specs.declared.script.Script.{Script}
-use Rattle.run_ports.specs.Store.{Files, StoreState}
+use Rattle.run_ports.specs.Store.{StoreState}
 use Rattle.sponge_schematic.specs.Carried.{Loaded}
 use Rattle.edit_top.specs.declared.status.Status.{Status}
 use Rattle.edit_top.specs.declared.status.Status.TheVariants.{Done, Usage, ReadFault, TooLong, WorldRefused, ScriptRefused, DuplicatePlayer, TooManyJobs, SaveFault, PrintFault, OutOfMemory}
