@@ -45,7 +45,12 @@ pub(crate) fn tell_fault<K: Sink>(out: &mut K, names: &Names<'_>, status: &Statu
         }
         Status::TooManyJobs { jobs } => {
             let mut number = Buffer::new();
-            tell_about(out, b"fault: too many jobs: ", number.format(*jobs).as_bytes(), b"\n");
+            tell_about(
+                out,
+                b"fault: too many jobs: ",
+                number.format(*jobs).as_bytes(),
+                b"\n",
+            );
         }
         Status::SaveFault => {
             tell_about(out, b"fault: cannot save ", names.out.as_bytes(), b"\n");
