@@ -56,20 +56,21 @@ const WIDTH: usize = 64;
 
 const HEIGHT: usize = 96;
 
-/// The plot's block data, from the block at each place: coordinates count from its least corner.
-fn data_of(
-    alloc: Global,
-    block: impl Fn(usize, usize, usize) -> u8,
-) -> Result<Vec<u8>, AllocError> {
+/// The plot's block data before or after all scripts: coordinates count from its least corner.
+fn data_of(alloc: Global, is_after: bool) -> Result<Vec<u8>, AllocError> {
     let mut data = Vec::new(alloc);
     for y in 0..HEIGHT {
         for z in 0..WIDTH {
             for x in 0..WIDTH {
-                data.push(block(x, y, z))?;
+                data.push(block(is_after, x, y, z))?;
             }
         }
     }
     Ok(data)
+}
+
+fn block(is_after: bool, x: usize, y: usize, z: usize) -> u8 {
+    if is_after { after(x, y, z) } else { before(y) }
 }
 
 /// Stone below 60, dirt from there, grass at 63, and air above.
@@ -148,8 +149,8 @@ fn plot(alloc: Global, names: &[&str], data: &[u8]) -> Result<Vec<u8>, Fail> {
 #[test]
 fn four_players_any_order_same_world(rt: HostRuntime) -> Result<(), Fail> {
     let alloc = rt.alloc();
-    let world = plot(alloc, &BEFORE, &data_of(alloc, |_x, y, _z| before(y))?)?;
-    let wanted = plot(alloc, &AFTER, &data_of(alloc, after)?)?;
+    let world = plot(alloc, &BEFORE, &data_of(alloc, false)?)?;
+    let wanted = plot(alloc, &AFTER, &data_of(alloc, true)?)?;
     let anna = ("anna.txt", ANNA);
     let bob = ("bob.txt", BOB);
     let carl = ("carl.txt", CARL);
