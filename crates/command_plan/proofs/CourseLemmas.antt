@@ -1,5 +1,5 @@
 -- A line more of a script: its session, and what is resolved of it.
-use Rattle.std.proofs.Common.{◌≡◌, ℕ, suc, ◌+◌, ◌<◌, ◌≤◌, ◌⊎◌, inl, inr, true, List, [], ◌∷◌, ◌++◌, length, take, map, get_or, Option, Some, refl, sym, ap, ◌∙◌, subst, arith}
+use Rattle.std.proofs.Common.{◌≡◌, ℕ, ◌+◌, ◌<◌, ◌≤◌, ◌⊎◌, inl, inr, true, List, [], ◌∷◌, ◌++◌, length, take, map, get_or, Option, Some, sym, ap, ◌∙◌, subst, arith}
 use Rattle.std.specs.Prelude.{slice_get}
 use Rattle.std.specs.Option.{option_map_or}
 use Rattle.std.specs.List.{range_with_len}
@@ -8,7 +8,6 @@ use Rattle.std.proofs.lemmas.List.{length-append, length-take-le, get_or_append_
 use Rattle.std.proofs.lemmas.List.FromFn.{map-range_with_len_more}
 use Rattle.std.proofs.lemmas.List.Sums.{fold_more}
 use Rattle.std.proofs.lemmas.Option.{slice_get_cases}
-use Rattle.edit_terms.specs.declared.script.Command.{Command}
 use Rattle.edit_terms.specs.declared.script.Line.{Line}
 use Rattle.edit_terms.specs.declared.step.Step.{Step}
 use Rattle.edit_terms.specs.declared.step.Step.TheVariants.{Settled}
@@ -17,7 +16,7 @@ use Rattle.run_terms.specs.Limits.{is_command_within}
 use Rattle.run_terms.specs.Session.{Session, opening_session, session_after, step_of_line, resolved_command, after_command}
 use Rattle.run_terms.proofs.Earlier.{session_has_taken}
 use Rattle.command_plan.specs.declared.footprint.Footprint.{Footprint}
-use Rattle.command_plan.specs.Courses.{IsResolved, footprint_at, no_footprint}
+use Rattle.command_plan.specs.Courses.{footprint_at, no_footprint}
 use Rattle.command_plan.specs.Footprints.{IsFootprint}
 use Rattle.command_plan.specs.Taken.{IsTaken}
 use Rattle.command_plan.specs.Within.{IsSessionWithin}

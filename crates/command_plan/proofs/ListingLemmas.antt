@@ -1,11 +1,11 @@
 -- The chunks of rectangles, row by row.
-use Rattle.std.proofs.Common.{◌≡◌, ℕ, zero, suc, ◌+◌, ◌-◌, ◌*◌, ◌/◌, ◌%◌, ◌<◌, ◌≤◌, ◌⊎◌, inl, inr, Bool, true, false, cond, ◌&&◌, ◌||◌, List, [], ◌∷◌, ◌++◌, length, refl, sym, ◌∙◌, ap, subst, arith}
-use Rattle.std.specs.Prelude.{filter, nat_le, nat_lt}
+use Rattle.std.proofs.Common.{◌≡◌, ℕ, zero, suc, ◌+◌, ◌-◌, ◌*◌, ◌/◌, ◌%◌, ◌<◌, ◌≤◌, ◌⊎◌, inl, inr, Bool, true, false, cond, ◌&&◌, ◌||◌, List, [], ◌∷◌, ◌++◌, length, refl, sym, ◌∙◌, ap, arith}
+use Rattle.std.specs.Prelude.{filter}
 use Rattle.std.specs.List.{range_with_len}
 use Rattle.std.specs.Cmp.Derive.{both_true}
 use Rattle.std.proofs.Math.Nat.{mul-le-mul}
 use Rattle.std.proofs.lemmas.Bool.Decides.{nat_tests}
-use Rattle.std.proofs.lemmas.List.{append-nil, length-append}
+use Rattle.std.proofs.lemmas.List.{length-append}
 use Rattle.std.proofs.lemmas.List.FromFn.{length-range_with_len}
 use Rattle.std.proofs.lemmas.Bool.{cases_lt}
 use Rattle.std.proofs.lemmas.Nat.{div-mul-add, mod-mul-add, div-add-mod', div_below, mod_below}
@@ -13,7 +13,7 @@ use Rattle.command_plan.specs.declared.rectangle.Floor.{Floor}
 use Rattle.command_plan.specs.declared.rectangle.Rectangle.{Rectangle}
 use Rattle.command_plan.specs.declared.rectangle.Run.{Run}
 use Rattle.command_plan.specs.declared.rectangle.Spread.{Spread}
-use Rattle.command_plan.specs.Rectangles.{is_among, covers, is_spread_over, IsFloor, IsRunWithin, IsInside, IsSpreadInside, IsPartOf, chunks_with, chunks_over}
+use Rattle.command_plan.specs.Rectangles.{is_among, covers, is_spread_over, IsFloor, IsRunWithin, IsInside, IsPartOf, chunks_with, chunks_over}
 use Rattle.command_plan.proofs.RunLemmas.{filter_none, filter_all, filter_split, trim, filter_agrees, filter_either}
 
 -- ---- a chunk by its column and row

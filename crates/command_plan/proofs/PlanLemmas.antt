@@ -14,7 +14,6 @@ use Rattle.run_terms.specs.Session.{step_of_line}
 use Rattle.run_terms.specs.Workload.{Workload}
 use Rattle.run_terms.proofs.Lists.{map-range_agrees}
 use Rattle.command_plan.specs.declared.course.Course.{Course}
-use Rattle.command_plan.specs.declared.planned.Planned.{Planned}
 use Rattle.command_plan.specs.Courses.{edits_at, keeps_at, jobs_at, IsSound}
 use Rattle.command_plan.specs.Plan.{planned_of, planned_by, plan_of, jobs_of_command, jobs_of_player, jobs_of}
 use Rattle.command_plan.specs.PlannedCourses.{planned_at}

@@ -1,12 +1,11 @@
 -- What a player's resolved commands access is what the definitions say of them.
-use Rattle.std.proofs.Common.{◌≡◌, ℕ, zero, suc, ◌+◌, ◌-◌, ◌*◌, ◌<◌, ◌≤◌, eqb, Bool, true, false, ◌||◌, List, [], ◌∷◌, ◌++◌, length, map, get_or, Option, Some, refl, sym, ◌∙◌, ap, subst, arith}
-use Rattle.std.specs.Prelude.{All, slice_get, sum_by, filter, flat_map}
+use Rattle.std.proofs.Common.{◌≡◌, ℕ, ◌+◌, ◌-◌, ◌*◌, ◌<◌, ◌≤◌, Bool, ◌||◌, List, [], ◌∷◌, ◌++◌, length, get_or, refl, sym, ◌∙◌, ap, subst, arith}
+use Rattle.std.specs.Prelude.{All, filter, flat_map}
 use Rattle.std.specs.List.{list_any, range_with_len}
 use Rattle.std.proofs.lemmas.List.{length-map}
 use Rattle.std.proofs.lemmas.List.Elements.{All-cons, All-head, All-tail}
 use Rattle.std.proofs.lemmas.List.FromFn.{length-range_with_len, get_or-map-range_with_len}
 use Rattle.std.proofs.lemmas.List.Folds.{list_any-append}
-use Rattle.std.proofs.lemmas.List.Sums.{sum_by-cons}
 use Rattle.edit_terms.specs.declared.script.Line.{Line}
 use Rattle.edit_terms.specs.declared.step.Step.{Step}
 use Rattle.edit_terms.specs.declared.step.Step.TheVariants.{Settled}
@@ -16,7 +15,7 @@ use Rattle.run_terms.specs.Fold.{edits_taken_by}
 use Rattle.run_terms.specs.Session.{step_of_line}
 use Rattle.run_terms.proofs.Earlier.{step_is_of_earlier}
 use Rattle.command_plan.specs.declared.footprint.Footprint.{Footprint}
-use Rattle.command_plan.specs.Courses.{footprint_at, step_at, edits_at, reads_at, writes_at, jobs_at, is_written, AreInside, IsSound, IsResolved}
+use Rattle.command_plan.specs.Courses.{footprint_at, step_at, edits_at, reads_at, writes_at, jobs_at, is_written, IsSound, IsResolved}
 use Rattle.command_plan.specs.Rectangles.{floor_of, is_spread_over}
 use Rattle.command_plan.proofs.RunLemmas.{filter_agrees}
 

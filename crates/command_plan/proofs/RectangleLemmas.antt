@@ -1,9 +1,7 @@
 -- Runs of columns and rectangles by their tests.
-use Rattle.std.proofs.Common.{◌≡◌, ℕ, ◌+◌, ◌-◌, ◌<◌, ◌≤◌, ◌⊎◌, inl, inr, ◌&&◌, arith}
+use Rattle.std.proofs.Common.{◌≡◌, ℕ, ◌+◌, ◌-◌, ◌<◌, ◌≤◌, ◌⊎◌, ◌&&◌, arith}
 use Rattle.std.specs.Prelude.{nat_le, nat_lt}
 use Rattle.std.proofs.lemmas.Bool.Decides.{nat_tests}
-use Rattle.command_plan.specs.declared.rectangle.Run.{Run}
-use Rattle.command_plan.specs.Rectangles.{is_among, IsRunWithin}
 
 pub common_test : (af at bf bt f e t c : ℕ) → af ≤ f → bf ≤ f → (f ≡ af) ⊎ (f ≡ bf) → e ≤ at → e ≤ bt → (e ≡ at) ⊎ (e ≡ bt) → f ≤ t → e ≤ t → (t ≡ f) ⊎ (t ≡ e)
     → (nat_le f c && nat_lt c t) ≡ ((nat_le af c && nat_lt c at) && (nat_le bf c && nat_lt c bt))

@@ -1,7 +1,7 @@
 -- What commands within the limits make of a session and of its clipboard.
-use Rattle.std.proofs.Common.{◌≡◌, ℕ, ◌+◌, ◌≤◌, Bool, true, false, ◌&&◌, List, [], ◌∷◌, Option, Some, None, refl, sym, ap, ◌∙◌, subst, arith, negsuc}
+use Rattle.std.proofs.Common.{◌≡◌, ℕ, ◌+◌, ◌≤◌, Bool, true, ◌&&◌, ◌∷◌, Option, Some, None, ◌∙◌, arith, negsuc}
 use Rattle.std.proofs.lemmas.Int.{ints}
-use Rattle.std.specs.Prelude.{IfSome, option_map, sum_by, nat_le}
+use Rattle.std.specs.Prelude.{IfSome, option_map, nat_le}
 use Rattle.std.specs.Option.{option_map_or}
 use Rattle.edit_terms.proofs.AreaLemmas.{and_both}
 use Rattle.std.proofs.lemmas.Bool.{leb-true}
@@ -10,7 +10,7 @@ use Rattle.edit_terms.specs.declared.region.Selection.{Selection}
 use Rattle.edit_terms.specs.declared.transform.Transform.{Transform}
 use Rattle.edit_terms.specs.declared.clip.Clip.{Clip}
 use Rattle.edit_terms.specs.declared.script.Command.{Command}
-use Rattle.edit_terms.specs.declared.script.Command.TheVariants.{Place, Gmask, Block, Copy, Cut, Rotate, Flip, Undo, Redo, Set, Walls, Faces, Replace, Sphere, Cyl, Stack, Move, Paste}
+use Rattle.edit_terms.specs.declared.script.Command.TheVariants.{Place, Block, Copy, Cut, Rotate, Flip, Undo, Redo, Set, Walls, Faces, Replace, Sphere, Cyl, Stack, Move, Paste}
 use Rattle.edit_terms.specs.declared.step.Refusal.{Refusal}
 use Rattle.edit_terms.specs.declared.step.Work.{Work}
 use Rattle.edit_terms.specs.declared.step.Work.TheVariants as work

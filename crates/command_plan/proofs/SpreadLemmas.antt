@@ -7,7 +7,6 @@ use Rattle.std.proofs.lemmas.List.Folds.{list_any-append}
 use Rattle.edit_terms.specs.Area.{Area, columns}
 use Rattle.run_terms.specs.Access.{is_chunk_of_box}
 use Rattle.command_plan.specs.declared.rectangle.Rectangle.{Rectangle}
-use Rattle.command_plan.specs.declared.rectangle.Spread.{Spread}
 use Rattle.command_plan.specs.Rectangles.{covers, floor_of, IsInside}
 use Rattle.command_plan.specs.Cuts.{IsCover, IsApart, IsCutOf, IsSpreadOf}
 

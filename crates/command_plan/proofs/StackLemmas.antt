@@ -1,5 +1,5 @@
 -- The copies of a stack lie side by side: together they are one box.
-use Rattle.std.proofs.Common.{◌≡◌, ℕ, zero, suc, ◌+◌, ◌-◌, ◌*◌, ◌/◌, ◌%◌, ◌<◌, ◌≤◌, Bool, true, ◌&&◌, List, ℤ, pos, ◌+ℤ◌, ◌-ℤ◌, ◌*ℤ◌, refl, sym, ◌∙◌, ap, arith}
+use Rattle.std.proofs.Common.{◌≡◌, ℕ, zero, suc, ◌+◌, ◌-◌, ◌*◌, ◌/◌, ◌%◌, ◌<◌, ◌≤◌, Bool, true, ◌&&◌, List, ℤ, pos, ◌+ℤ◌, ◌-ℤ◌, ◌*ℤ◌, sym, ◌∙◌, ap, arith}
 use Rattle.std.specs.Prelude.{nat_abs}
 use Rattle.std.specs.List.{list_any, range_with_len}
 use Rattle.std.specs.Cmp.Derive.{both_true}
@@ -15,7 +15,7 @@ use Rattle.run_terms.specs.Access.{is_chunk_of_box, moved_box, stacked_boxes}
 use Rattle.command_plan.specs.declared.extent.Extent.{Extent}
 use Rattle.command_plan.specs.Extents.{IsExtent}
 use Rattle.command_plan.specs.Stacks.{stack_hull}
-use Rattle.command_plan.proofs.ChunkLemmas.{same_tests, IsFound, found_in, any_found, any_of_map, holds_parts, IsBlockIn, block_of_chunk, chunk_of_block}
+use Rattle.command_plan.proofs.ChunkLemmas.{same_tests, found_in, any_found, any_of_map, holds_parts, block_of_chunk, chunk_of_block}
 
 -- ---- along one axis
 

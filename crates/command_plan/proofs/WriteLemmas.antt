@@ -1,5 +1,5 @@
 -- The chunks that a command writes with those that it takes.
-use Rattle.std.proofs.Common.{◌≡◌, ℕ, zero, suc, ◌+◌, ◌*◌, ◌<◌, ◌≤◌, Bool, true, false, ◌||◌, List, [], ◌∷◌, length, get_or, sym, ◌∙◌, ap, arith}
+use Rattle.std.proofs.Common.{◌≡◌, ℕ, ◌+◌, ◌*◌, ◌<◌, ◌≤◌, Bool, false, ◌||◌, List, [], ◌∷◌, length, get_or, sym, ◌∙◌, ap, arith}
 use Rattle.std.specs.Prelude.{All, filter, sum_by}
 use Rattle.std.specs.List.{range_with_len}
 use Rattle.std.proofs.lemmas.List.{get_or_default}
@@ -9,7 +9,7 @@ use Rattle.edit_terms.specs.declared.step.Step.TheVariants.{Settled}
 use Rattle.run_terms.specs.Fold.{edits_taken_by}
 use Rattle.command_plan.specs.declared.footprint.Footprint.{Footprint}
 use Rattle.command_plan.specs.declared.rectangle.Floor.{Floor}
-use Rattle.command_plan.specs.Courses.{footprint_at, is_written, marked, edits_at, step_at, writes_at, IsSound}
+use Rattle.command_plan.specs.Courses.{footprint_at, is_written, marked, edits_at, writes_at, IsSound}
 use Rattle.command_plan.specs.Rectangles.{is_spread_over, chunks_with, chunks_over}
 use Rattle.command_plan.proofs.RunLemmas.{filter_agrees, range_split}
 use Rattle.command_plan.proofs.MarkLemmas.{or_end}

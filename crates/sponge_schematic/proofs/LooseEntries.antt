@@ -1,7 +1,6 @@
 -- A list of a root has no more items than the file has bytes, since each item takes at least one.
-use Rattle.std.proofs.Common.{◌≡◌, ℕ, zero, suc, ◌+◌, ◌<◌, ◌≤◌, Bool, true, false, cond, List, [], ◌∷◌, ◌++◌, length, Option, Some, None, Result, Ok, Err, refl, sym, ap, subst, ◌∙◌, arith}
+use Rattle.std.proofs.Common.{◌≡◌, ℕ, zero, suc, ◌+◌, ◌<◌, ◌≤◌, Bool, true, false, cond, List, [], ◌∷◌, ◌++◌, length, Option, Some, None, Result, Ok, Err, refl, ap, subst, ◌∙◌, arith}
 use Rattle.std.specs.Prelude.{find, option_map, is_none, IfOk}
-use Rattle.std.specs.Int.{w8, w16, w32, w64}
 use Rattle.std.proofs.lemmas.List.{length-append}
 use Rattle.std.proofs.lemmas.List.Sums.{length-filter, count_by-le-length}
 use Rattle.nbt_tags.specs.declared.tag.Tag.{Tag, out-Tag}
@@ -26,7 +25,7 @@ use Rattle.sponge_schematic.specs.Palette.{palette_of}
 use Rattle.sponge_schematic.specs.BlockData.{cells_of}
 use Rattle.sponge_schematic.specs.Schematic.{Parts, parts_of, entry_list, entries_in, is_compressed, from_nbt, root_row, schematic_row, schematic_of}
 use Rattle.sponge_schematic.proofs.RootLemmas.{compound_root}
-use Rattle.nbt_tags.specs.Spelling.{Layer, Joins, IsEach, IsEntry, IsItem, IsList, IsPayload, IsLayer, nesting, Spells, tag_of, max_depth}
+use Rattle.nbt_tags.specs.Spelling.{Layer, Joins, IsEach, IsEntry, IsItem, IsPayload, IsLayer, nesting, Spells, tag_of}
 
 -- the two parts are as long as the whole
 joined_length : {P Q : List ℕ → Type 0} (bytes : List ℕ) (h : Joins P Q bytes) → length bytes ≡ length h.front + length h.back

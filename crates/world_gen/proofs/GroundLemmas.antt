@@ -1,5 +1,5 @@
 -- The grid of the ground shows the ground.
-use Rattle.std.proofs.Common.{◌≡◌, ℕ, ◌+◌, ◌<◌, Bool, true, false, ◌&&◌, cond, List, [], ◌∷◌, length, map, get_or, refl, sym, ap, ◌∙◌, subst, arith, ℤ, pos, leb, eqb}
+use Rattle.std.proofs.Common.{◌≡◌, ℕ, ◌+◌, ◌<◌, Bool, true, false, ◌&&◌, cond, List, [], ◌∷◌, length, map, get_or, refl, ap, ◌∙◌, arith, pos}
 use Rattle.std.specs.Prelude.{int_lt, nat_lt}
 use Rattle.std.specs.List.{range_with_len, list_all}
 use Rattle.std.specs.Cmp.Derive.{both_true}
@@ -8,7 +8,7 @@ use Rattle.std.proofs.lemmas.List.FromFn.{get_or-map-range_with_len, length-map-
 use Rattle.edit_terms.specs.declared.pos.Pos.{Pos}
 use Rattle.edit_terms.specs.Area.{Area, position_of, volume}
 use Rattle.edit_terms.specs.StateText.{State, air}
-use Rattle.edit_terms.specs.World.{BlockContent, World, without_entity}
+use Rattle.edit_terms.specs.World.{BlockContent, without_entity}
 use Rattle.edit_terms.specs.Grid.{GridParts, world_of, content_of_cell, is_numbered}
 use Rattle.run_terms.proofs.Lists.{map-range_agrees}
 use Rattle.world_gen.specs.Drill.{stone, dirt, grass_block, ground_at, ground_over}

@@ -1,5 +1,5 @@
 -- The drill keeps to the limits of a case.
-use Rattle.std.proofs.Common.{◌≡◌, ℕ, zero, suc, ◌+◌, ◌*◌, ◌%◌, ◌<◌, ◌≤◌, true, List, [], ◌∷◌, ◌++◌, length, map, get_or, refl, sym, ap, ◌∙◌, arith, pos}
+use Rattle.std.proofs.Common.{◌≡◌, ℕ, zero, suc, ◌+◌, ◌*◌, ◌%◌, ◌<◌, ◌≤◌, true, List, [], ◌∷◌, ◌++◌, length, map, get_or, refl, ◌∙◌, arith, pos}
 use Rattle.std.specs.Prelude.{All, IsTrue}
 use Rattle.std.specs.List.{range_with_len, flat_map}
 use Rattle.std.proofs.lemmas.Int.{ints}
@@ -7,11 +7,9 @@ use Rattle.std.proofs.lemmas.List.{length-append}
 use Rattle.std.proofs.lemmas.List.Elements.{All-append, All-cons}
 use Rattle.edit_terms.specs.declared.direction.Direction.TheVariants.{Up}
 use Rattle.edit_terms.specs.declared.pattern.Pattern.{Pattern}
-use Rattle.edit_terms.specs.declared.pos.Pos.{Pos}
 use Rattle.edit_terms.specs.declared.script.Command.{Command}
 use Rattle.edit_terms.specs.declared.script.Command.TheVariants.{Pos1, Pos2, Set, Walls, Faces, Replace, Stack, Undo}
 use Rattle.edit_terms.specs.declared.script.Line.{Line}
-use Rattle.edit_terms.specs.declared.script.Script.{Script}
 use Rattle.run_terms.specs.Limits.{is_command_within, is_pattern_within, is_position_within, IsScriptWithin, IsWithinLimits}
 use Rattle.world_gen.proofs.LineLemmas.{length-lines_from}
 use Rattle.world_gen.specs.Drill.{corner, command_by, pattern_of, state_by, stone_mask, group_commands, drill_word, drill_commands, lines_from, drill_script, drill_workload}

@@ -1,5 +1,4 @@
-use Rattle.std.proofs.Common.{◌≡◌, ℕ, ◌∙◌, List, ◌++◌, ◌∷◌, [], map, ap, sym, arith, rules}
-use Rattle.std.specs.List.{range_with_len}
+use Rattle.std.proofs.Common.{◌≡◌, ℕ, ◌∙◌, List, ◌++◌, ◌∷◌, [], ap, sym, arith, rules}
 use Rattle.std.proofs.lemmas.List.FromFn.{map-range_with_len_more}
 use Rattle.edit_terms.specs.Area.{position_of}
 use Rattle.world_gen.specs.Ground.{ground_number}

@@ -1,7 +1,6 @@
-use Rattle.std.proofs.Common.{◌≡◌, ◌∙◌, List, ℕ, true, ap, sym, subst, rules}
-use Rattle.edit_terms.specs.StateText.{State}
-use Rattle.edit_terms.specs.Grid.{GridParts, world_of, is_numbered}
-use Rattle.world_gen.proofs.GroundLemmas.{ground_kinds, ground_cells, ground_grid, ground_numbered, ground_shown}
+use Rattle.std.proofs.Common.{◌≡◌, ◌∙◌, true, ap, rules}
+use Rattle.edit_terms.specs.Grid.{world_of, is_numbered}
+use Rattle.world_gen.proofs.GroundLemmas.{ground_grid, ground_numbered, ground_shown}
 use Rattle.world_gen.proofs.ground.ground.Goals as goal
 
 pub unreachable-requires : goal.unreachable-requires

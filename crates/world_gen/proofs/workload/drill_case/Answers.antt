@@ -1,9 +1,8 @@
 use Rattle.std.proofs.Common.{◌≡◌, ◌∙◌, List, ap, sym, subst}
 use Rattle.edit_terms.specs.declared.script.Script.{Script}
 use Rattle.edit_terms.specs.World.{World}
-use Rattle.run_terms.specs.Workload.{Workload}
 use Rattle.run_terms.specs.Limits.{IsWithinLimits}
-use Rattle.world_gen.specs.Drill.{drill_world, drill_workload}
+use Rattle.world_gen.specs.Drill.{drill_world}
 use Rattle.world_gen.proofs.LimitLemmas.{drill_within}
 use Rattle.world_gen.proofs.workload.drill_case.Goals as goal
 

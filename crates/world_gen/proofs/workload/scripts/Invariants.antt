@@ -1,4 +1,4 @@
-use Rattle.std.proofs.Common.{◌≡◌, ℕ, map}
+use Rattle.std.proofs.Common.{◌≡◌, map}
 use Rattle.std.specs.List.{range_with_len}
 use Rattle.world_gen.specs.Drill.{drill_script}
 use Rattle.world_gen.proofs.workload.scripts.Given as goal
