@@ -144,8 +144,8 @@ not_too_much asked told files loaded scripts jobs tells world read few cause =
     let world_is : cause.loaded ≡ loaded = same_world told files asked.names cause.loaded loaded tells cause.world world in
     let scripts_are : cause.scripts ≡ scripts = same_scripts told files asked.names.scripts cause.scripts scripts tells cause.read read in
     let sum : jobs ≡ accesses_of (workload asked loaded scripts) =
-    cause.all ∙ ap (λ (l : Loaded). accesses_of (workload asked l cause.scripts)) world_is ∙ ap (λ (ss : List Script). accesses_of (workload asked loaded ss)) scripts_are in
-    omega (arith, few, cause.many, sum)
+    cause.many.all ∙ ap (λ (l : Loaded). accesses_of (workload asked l cause.scripts)) world_is ∙ ap (λ (ss : List Script). accesses_of (workload asked loaded ss)) scripts_are in
+    omega (arith, few, cause.many.many, sum)
 
 -- Good words and files end well where nothing outside fails.
 pub ends_well : (words : List (List ℕ)) (before after : StoreState) (shown told : OutputState) (status : Status) → Ends words before after shown told status → IsGood words before.files

@@ -14,3 +14,7 @@ pub mod ReadNames
 pub mod ShownOrder
 pub mod CheckEndings
 pub mod Stops
+pub mod DrillCounts
+pub mod DrillEndings
+pub mod WholeOrders
+pub mod DrillTexts

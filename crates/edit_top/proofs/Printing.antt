@@ -17,17 +17,17 @@ use Rattle.run_terms.specs.Order.{turns_of, lines_of, player_of, command_number,
 use Rattle.edit_top.specs.RunText.{ticket_text, name_of, line_number, text_of_ticket}
 
 -- one turn more of the ticket's player, and none of the others
-turns_of-more : (order : List ℕ) (t : ℕ) → t < length order → turns_of (get_or order t 0) (take (t + 1) order) ≡ turns_of (get_or order t 0) (take t order) + 1
+pub turns_of-more : (order : List ℕ) (t : ℕ) → t < length order → turns_of (get_or order t 0) (take (t + 1) order) ≡ turns_of (get_or order t 0) (take t order) + 1
 turns_of-more order t within = count_by_more_yes (λ p. eqb p (get_or order t 0)) order t 0 within (eq-eqb (get_or order t 0) (get_or order t 0) refl)
 
 different : (a b : ℕ) → (a ≡ b → ⊥) → eqb b a ≡ false
 different a b apart = grind (arith, nat_tests)
 
-turns_of-other : (order : List ℕ) (t player : ℕ) → t < length order → (player ≡ get_or order t 0 → ⊥) → turns_of player (take (t + 1) order) ≡ turns_of player (take t order)
+pub turns_of-other : (order : List ℕ) (t player : ℕ) → t < length order → (player ≡ get_or order t 0 → ⊥) → turns_of player (take (t + 1) order) ≡ turns_of player (take t order)
 turns_of-other order t player within apart = count_by_more_no (λ p. eqb p player) order t 0 within (different player (get_or order t 0) apart)
 
 -- a player's turns in the front of an order are no more than in all of it
-turns_of-take : (player t : ℕ) (order : List ℕ) → turns_of player (take t order) ≤ turns_of player order
+pub turns_of-take : (player t : ℕ) (order : List ℕ) → turns_of player (take t order) ≤ turns_of player order
 turns_of-take player t order =
     let parts : turns_of player order ≡ turns_of player (take t order) + turns_of player (drop t order) =
     ap (turns_of player) (sym (take-append-drop t order)) ∙ sum_by-append (λ (p : ℕ). cond (eqb p player) 1 0) (take t order) (drop t order) in
@@ -45,13 +45,16 @@ command_below scripts order t legal within =
 pub lines_of-read : (scripts : List Script) (player : ℕ) (script : Script) → player < length scripts → script ≡ get_or scripts player script → lines_of scripts player ≡ script.lines
 lines_of-read scripts player script within there = ap (λ (o : Option Script). option_map_or (λ s. s.lines) o []) (slice_get_read scripts (length scripts) player script refl within there)
 
+-- the name in the script that was read
+pub name_of-read : (scripts : List Script) (player : ℕ) (script : Script) → player < length scripts → script ≡ get_or scripts player script → name_of scripts player ≡ script.player
+name_of-read scripts player script within there = ap (λ (o : Option Script). option_map_or (λ s. s.player) o []) (slice_get_read scripts (length scripts) player script refl within there)
+
 -- the text of a ticket, from what was read of its script
 pub text_of_ticket-read : (scripts : List Script) (order : List ℕ) (replies : List Reply) (t : ℕ) (script : Script) (line : Line) (command : ℕ)
     → player_of order t < length scripts → script ≡ get_or scripts (player_of order t) script → command ≡ command_number order t → slice_get script.lines command ≡ Some line
     → text_of_ticket scripts order replies t ≡ ticket_text t script.player line.number (get_or replies t Accepted)
 text_of_ticket-read scripts order replies t script line command within there next line_there =
-    let found = slice_get_read scripts (length scripts) (player_of order t) script refl within there in
-    let name : name_of scripts (player_of order t) ≡ script.player = ap (λ (o : Option Script). option_map_or (λ s. s.player) o []) found in
+    let name = name_of-read scripts (player_of order t) script within there in
     let number : line_number scripts (player_of order t) (command_number order t) ≡ line.number =
     ap (λ (ls : List Line). option_map_or (λ l. l.number) (slice_get ls (command_number order t)) 0) (lines_of-read scripts (player_of order t) script within there)
     ∙ ap (λ (k : ℕ). option_map_or (λ l. l.number) (slice_get script.lines k) 0) (sym next)
@@ -59,7 +62,7 @@ text_of_ticket-read scripts order replies t script line command within there nex
     ap (λ (n : List ℕ). ticket_text t n (line_number scripts (player_of order t) (command_number order t)) (get_or replies t Accepted)) name
     ∙ ap (λ (n : ℕ). ticket_text t script.player n (get_or replies t Accepted)) number
 
-range-more : (a n j : ℕ) → a + n ≡ j → range_with_len a (n + 1) ≡ range_with_len a n ++ j ∷ []
+pub range-more : (a n j : ℕ) → a + n ≡ j → range_with_len a (n + 1) ≡ range_with_len a n ++ j ∷ []
 range-more a zero j e = ap (λ (x : ℕ). x ∷ []) (omega (arith, e))
 range-more a (suc n) j e =
     let next : suc n + 1 ≡ suc (n + 1) = omega arith in

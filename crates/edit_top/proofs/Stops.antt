@@ -13,7 +13,7 @@ use Rattle.edit_top.specs.Prepared.{IsMakeCause}
 -- what stopped a run behind its reading stops it
 pub make_stops : (asked : Asked) (before after : StoreState) (loaded : Loaded) (scripts : List Script) (status : Status) → HasWorld before.files asked.names loaded → AreAllScripts before.files asked.names.scripts scripts
     → IsMakeCause (workload asked loaded scripts) status → IsStopCause asked before after status
-make_stops asked before after loaded scripts (TooManyJobs jobs) world read cause = record { loaded = loaded; scripts = scripts; world = world; read = read; all = cause.all; many = cause.many }
+make_stops asked before after loaded scripts (TooManyJobs jobs) world read cause = record { loaded = loaded; scripts = scripts; world = world; read = read; many = cause }
 make_stops asked before after loaded scripts OutOfMemory world read cause = tt
 make_stops asked before after loaded scripts Done world read cause = absurd cause
 make_stops asked before after loaded scripts Usage world read cause = absurd cause

@@ -1,5 +1,5 @@
 -- The end-to-end theorem: what stands after each ending of a run, and why it came.
-use Rattle.std.specs.Prelude.{◌≡◌, ℕ, ◌<◌, ◌≤◌, ◌⊎◌, List, length, take, Option, Some, None}
+use Rattle.std.specs.Prelude.{◌≡◌, ℕ, ◌≤◌, ◌⊎◌, List, length, take, Option, Some, None}
 use Rattle.edit_terms.specs.declared.script.Script.{Script}
 use Rattle.run_terms.specs.Workload.{Workload}
 use Rattle.run_terms.specs.Access.{accesses_of}
@@ -8,7 +8,7 @@ use Rattle.run_terms.specs.Reply.{final_world}
 use Rattle.run_ports.specs.Count.{Rose}
 use Rattle.run_ports.specs.Store.{Files, StoreState, IsSaved, IsTorn}
 use Rattle.run_ports.specs.Output.{OutputState, IsAppended, IsPartlyAppended}
-use Rattle.command_plan.specs.Plan.{most_jobs}
+use Rattle.command_plan.specs.Plan.{most_jobs, HasTooMany}
 use Rattle.sponge_schematic.specs.Carried.{Loaded}
 use Rattle.sponge_schematic.specs.File.{schematic_bytes}
 use Rattle.edit_top.specs.declared.status.Status.{Status}
@@ -87,8 +87,7 @@ pub record IsTooMuch (asked : Asked) (told : Option Files) (jobs : ℕ) : Type 0
   pub scripts : List Script
   pub world : HasWorld told asked.names loaded
   pub read : AreAllScripts told asked.names.scripts scripts
-  pub all : jobs ≡ accesses_of (workload asked loaded scripts)
-  pub many : most_jobs < jobs
+  pub many : HasTooMany (workload asked loaded scripts) jobs
 
 -- why a run stopped before it saved: at reading, or as it would have too many jobs
 abbrev pub IsStopCause : Asked → StoreState → StoreState → Status → Type 0

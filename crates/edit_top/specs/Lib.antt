@@ -10,3 +10,5 @@ pub mod Prepared
 pub mod ShownOrder
 pub mod CheckText
 pub mod CheckEnds
+pub mod DrillText
+pub mod DrillEnds

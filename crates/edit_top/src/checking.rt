@@ -6,8 +6,9 @@ ghost use Rattle.edit_top.specs.Words.{names_view};
 ghost use Rattle.edit_top.specs.Reading.{IsWorldCause};
 ghost use Rattle.edit_top.specs.Ends.{NothingFailed, IsDoneOrMemory, IsNoFailure, IsTold};
 ghost use Rattle.edit_top.specs.CheckText.{checked_by, world_alone, check_usage_text};
-ghost use Rattle.edit_top.specs.CheckEnds.{CheckEnds, IsGoodCheck, IsFileText, Prints};
+ghost use Rattle.edit_top.specs.CheckEnds.{CheckEnds, IsGoodCheck, IsFileText};
 
+use crate::answering::print;
 use crate::check_text::world_text;
 use crate::loading::load_world;
 use crate::status::Status;
@@ -92,14 +93,4 @@ fn file_text<F: Shelf>(alloc: Global, names: &Names<'_>, shelf: &mut F) -> Resul
     let world = load_world(alloc, names, shelf)?;
     let text = world_text(alloc, &world.grid)?;
     Ok(text)
-}
-
-/// Prints the text.
-fn print<K: Sink>(out: &mut K, text: &[u8]) -> Status
-    ensures { Prints text.now (K.seen out.old) (K.seen out.new) result }
-{
-    match out.put(text) {
-        Ok(()) => Status::Done,
-        Err(_failed) => Status::PrintFault,
-    }
 }

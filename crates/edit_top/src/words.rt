@@ -97,7 +97,7 @@ fn asked_with<'a>(names: Names<'a>, seed: &str, workers: &str, depth: &str) -> O
 }
 
 /// The number of a word of 1 to `most` digits, if it is one from `least` to `greatest`.
-fn number_of(word: &str, most: usize, least: u64, greatest: u64) -> Option<u64>
+pub(crate) fn number_of(word: &str, most: usize, least: u64, greatest: u64) -> Option<u64>
     ensures number { result ≡ number_of most least greatest word.now }
     ensures few { IfSome result (λ n. n ≤ greatest) }
     ensures within { IfSome result (λ n. is_between least greatest n ≡ true) }
