@@ -1,18 +1,16 @@
 -- The drill's players keep apart, so that its serial order is free.
-use Rattle.std.proofs.Common.{◌≡◌, ℕ, ◌/◌, ◌%◌, Bool, true, List, [], ◌∷◌, map, refl, sym, ap, ◌∙◌, arith}
+use Rattle.std.proofs.Common.{◌≡◌, ℕ, ◌/◌, ◌%◌, true, List, [], ◌∷◌, map, refl, sym, ap, ◌∙◌, arith}
 use Rattle.std.specs.Prelude.{All, flat_map}
 use Rattle.std.specs.List.{range_with_len, list_any}
 use Rattle.std.proofs.lemmas.List.FromFn.{length-map-range_with_len}
 use Rattle.edit_terms.specs.declared.clip.Source.{Source}
-use Rattle.edit_terms.specs.declared.script.Command.{Command}
 use Rattle.edit_terms.specs.declared.script.Line.{Line}
 use Rattle.edit_terms.specs.declared.script.Script.{Script}
 use Rattle.edit_terms.specs.Area.{Area, volume, position_of, chunks, is_world_box}
-use Rattle.edit_terms.specs.World.{World, IsWorld, without_entity}
+use Rattle.edit_terms.specs.World.{IsWorld, without_entity}
 use Rattle.edit_terms.proofs.AreaLemmas.{and_both}
-use Rattle.run_terms.specs.Workload.{Workload}
 use Rattle.run_terms.specs.Order.{lines_of, step_of_command}
-use Rattle.run_terms.specs.Access.{is_chunk_of_box, boxes_read_by, boxes_written_by, chunks_of_boxes, with_edits_taken, chunks_read_by, chunks_written_by}
+use Rattle.run_terms.specs.Access.{is_chunk_of_box, boxes_read_by, boxes_written_by, with_edits_taken, chunks_read_by, chunks_written_by}
 use Rattle.access_laws.specs.Locality.{is_among}
 use Rattle.access_laws.specs.OrderFree.{is_command_still, AreScriptsStill, accesses, IsFreeOfOrder, OrderIsFree}
 use Rattle.access_laws.proofs.Stays.{among_is, any_joined}
@@ -80,6 +78,7 @@ each_still player = record {
   undo = refl;
 }
 
+-- so the scripts draw nothing
 scripts_still : (number : ℕ) → AreScriptsStill (map (drill_script number) (range_with_len 0 8))
 scripts_still number =
     scripts_hold (λ (script : Script). All (λ (line : Line). is_command_still line.command ≡ true) script.lines) number 0 8 (omega arith)

@@ -28,9 +28,11 @@ pub record IsOwnBox (player : ℕ) (box : Area) : Type 0 where
 pub corner_own : (player a b c : ℕ) → IsOwnPosition player (corner player a b c)
 corner_own player a b c = record { from = grind (arith, ints); to = grind (arith, ints) }
 
+-- two coordinates from a bound on: so is the lesser
 cuboid_from : (low : ℕ) (x y : ℤ) → pos low ≤ℤ x → pos low ≤ℤ y → pos low ≤ℤ int_min x y
 cuboid_from low x y h k = grind (arith, ints)
 
+-- two coordinates below a bound: so are all between them
 cuboid_to : (high : ℕ) (x y : ℤ) → (x +ℤ pos 1) ≤ℤ pos high → (y +ℤ pos 1) ≤ℤ pos high → (int_min x y +ℤ pos (count_between x y)) ≤ℤ pos high
 cuboid_to high x y h k = grind (arith, ints)
 
@@ -63,6 +65,7 @@ shared_column player b w k from to inside = record {
 owner_of : (player n m : ℕ) → 32 * player ≤ n → n < 32 * player + 32 → n < 256 → (n / 16 + m * 16) % 16 / 2 ≡ player
 owner_of player n m from to inside = omega arith
 
+-- a number is as far above 0 as it says
 row_back : (q : ℕ) → offset (pos 0) (pos q) ≡ q
 row_back q = grind (arith, ints)
 
@@ -74,6 +77,7 @@ owner_of_column player p column =
     ∙ ap (λ (q : ℕ). (q + row * 16) % 16 / 2) (row_back (column.n / 16))
     ∙ owner_of player column.n row column.from column.to column.inside
 
+-- a box with a block is at least one block wide
 wide : (w h l i : ℕ) → i < w * h * l → 0 < w
 wide zero h l i below = absurd (omega (arith, below))
 wide (suc w) h l i below = omega arith

@@ -14,6 +14,7 @@ use Rattle.world_gen.proofs.ScriptLemmas.{HoldsOfEach, script_holds, scripts_hol
 corner_within : (player a b c : ℕ) → player < 8 → is_position_within (corner player a b c) ≡ true
 corner_within player a b c below = grind (arith, ints)
 
+-- a command within the limits
 abbrev IsWithin : Command → Type 0
 IsWithin command = IsTrue (is_command_within command)
 
@@ -37,6 +38,7 @@ length-groups number player a (suc n) =
     let rest = flat_map (λ (group : ℕ). group_commands (drill_word number player group) player) (range_with_len (a + 1) n) in
     length-append (group_commands (drill_word number player a) player) rest ∙ omega (arith, length-groups number player (a + 1) n)
 
+-- each player's script is within the limits
 script_within : (number player : ℕ) → player < 8 → IsScriptWithin (drill_script number player)
 script_within number player below = record {
   name = refl;
@@ -44,5 +46,6 @@ script_within number player below = record {
   commands = script_holds IsWithin player (each_within player below) number;
 }
 
+-- and the drill
 pub drill_within : (number : ℕ) → IsWithinLimits (drill_workload number)
 drill_within number = record { scripts = refl; depth = refl; each = scripts_hold IsScriptWithin number 0 8 (omega arith) (script_within number) }

@@ -1,13 +1,12 @@
 -- What holds of each command that a group may have holds of each line of each script.
-use Rattle.std.proofs.Common.{◌≡◌, ℕ, zero, suc, ◌+◌, ◌%◌, ◌<◌, ◌≤◌, List, [], ◌∷◌, ◌++◌, length, map, get_or, Option, Some, None, refl, sym, ap, subst, ◌∙◌, inl, inr, arith}
-use Rattle.std.specs.Prelude.{All, slice_get}
+use Rattle.std.proofs.Common.{◌≡◌, ℕ, zero, suc, ◌+◌, ◌%◌, ◌<◌, ◌≤◌, List, [], ◌∷◌, map, get_or, Option, Some, sym, subst, ◌∙◌, inl, inr, arith}
+use Rattle.std.specs.Prelude.{All}
 use Rattle.std.specs.List.{range_with_len, flat_map}
 use Rattle.std.specs.Option.{option_map_or}
 use Rattle.std.proofs.lemmas.List.Elements.{All-nil, All-append, All-cons, All-head, All-tail}
 use Rattle.std.proofs.lemmas.List.FromFn.{get_or-map-range_with_len, length-map-range_with_len}
 use Rattle.std.proofs.lemmas.Option.{slice_get_cases}
 use Rattle.edit_terms.specs.declared.direction.Direction.TheVariants.{Up}
-use Rattle.edit_terms.specs.declared.pattern.Pattern.{Pattern}
 use Rattle.edit_terms.specs.declared.script.Command.{Command}
 use Rattle.edit_terms.specs.declared.script.Command.TheVariants.{Pos1, Pos2, Set, Walls, Faces, Replace, Stack, Undo}
 use Rattle.edit_terms.specs.declared.script.Line.{Line}
@@ -55,6 +54,7 @@ module _ (Q : Command → Type 0) (player : ℕ) (each : HoldsOfEach Q player) w
       All-append Q (group_commands (drill_word number player a) player) (flat_map (λ (group : ℕ). group_commands (drill_word number player group) player) (range_with_len (a + 1) n))
       (group_holds (drill_word number player a)) (groups_hold number (a + 1) n)
 
+  -- of each line of such commands
   lines_hold : (first : ℕ) (commands : List Command) → All Q commands → All (λ (line : Line). Q line.command) (lines_from first commands)
   lines_hold first [] all = All-nil (λ (line : Line). Q line.command)
   lines_hold first (command ∷ commands) all =
@@ -71,7 +71,7 @@ scripts_hold R number a zero fits each = All-nil R
 scripts_hold R number a (suc n) fits each =
     All-cons R (drill_script number a) (map (drill_script number) (range_with_len (a + 1) n)) (each a (omega (arith, fits))) (scripts_hold R number (a + 1) n (omega (arith, fits)) each)
 
--- what holds of each command that a player may have holds of each line of the player
+-- what holds of each command that a player may have holds of each of the player's lines
 pub player_holds : (Q : Command → Type 0) (number n player : ℕ) → HoldsOfEach Q player → All (λ (line : Line). Q line.command) (lines_of (map (drill_script number) (range_with_len 0 n)) player)
 player_holds Q number n player each =
     let scripts = map (drill_script number) (range_with_len 0 n) in

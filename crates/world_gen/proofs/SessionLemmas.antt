@@ -25,7 +25,7 @@ use Rattle.edit_terms.specs.declared.step.Step.{Step}
 use Rattle.edit_terms.specs.declared.step.Step.TheVariants.{Settled, Refused}
 use Rattle.edit_terms.specs.Area.{Area}
 use Rattle.edit_terms.specs.Frame.{shape_frame, frame_of, frame_of_selection, size_along}
-use Rattle.run_terms.specs.Session.{Session, selection_from, selection_of, refusal_of, work_of, job_of, resolved_command, with_command, counted, after_command, step_of_line}
+use Rattle.run_terms.specs.Session.{Session, selection_from, selection_of, refusal_of, work_of, job_of, resolved_command, with_command, counted, step_of_line}
 use Rattle.run_terms.specs.Access.{boxes_read, boxes_read_by, boxes_written, boxes_written_by, moved_box, stacked_boxes}
 use Rattle.access_laws.proofs.Scripts.{line_has, session_at, kept_by_commands}
 use Rattle.world_gen.specs.Drill.{drill_area}
@@ -62,6 +62,7 @@ module _ (player : ℕ) where
 
   -- ---- the session after a command
 
+  -- a command of its own keeps a session so
   with_command_own : (s : Session) (command : Command) → IsOwnCommand player command → IsOwnSession s → IsOwnSession (with_command s command)
   with_command_own s (Pos1 at) own h = record { kind = h.kind; first = own; second = h.second }
   with_command_own s (Pos2 at) own h = record { kind = h.kind; first = h.first; second = own }
@@ -73,18 +74,21 @@ module _ (player : ℕ) where
   with_command_own s (Undo count) own h = record { kind = h.kind; first = h.first; second = h.second }
   with_command_own s command own h = absurd own
 
+  -- refused or not
   after_own : (s : Session) (command : Command) (refusal : Option Refusal) → IsOwnCommand player command → IsOwnSession s → IsOwnSession (counted (option_map_or (λ r. s) refusal (with_command s command)))
   after_own s command (Some r) own h = record { kind = h.kind; first = h.first; second = h.second }
   after_own s command None own h = let after = with_command_own s command own h in record { kind = after.kind; first = after.first; second = after.second }
 
   -- ---- the boxes of a command
 
+  -- the box of the session's selection lies in the columns
   selection_own : (kind : Kind) (first second : Option Pos) → kind ≡ Cuboid → IfSome first (IsOwnPosition player) → IfSome second (IsOwnPosition player)
       → IfSome (selection_from kind first second) (λ from. IsOwnBox player (frame_of_selection from))
   selection_own kind (Some first) (Some second) is f s = subst (λ (k : Kind). IsOwnBox player (shape_frame k first second)) (sym is) (cuboid_own player first second f s)
   selection_own kind (Some first) None is f s = tt
   selection_own kind None second is f s = tt
 
+  -- one box in the columns
   one_own : (box : Area) → IsOwnBox player box → All (IsOwnBox player) (box ∷ [])
   one_own box own = All-cons (IsOwnBox player) box [] own (All-nil (IsOwnBox player))
 
@@ -109,6 +113,7 @@ module _ (player : ℕ) where
     written = λ clip. subst (λ (t : Direction). All (IsOwnBox player) (stacked_boxes count t (frame_of_selection from))) (sym up) (stacked_own count (frame_of_selection from) own);
   }
 
+  -- the work of each command
   work_own : (s : Session) (command : Command) → IsOwnCommand player command → IfSome (selection_of s) (λ from. IsOwnBox player (frame_of_selection from)) → IfSome (work_of s command) IsOwnWork
   work_own s (Pos1 at) own box = tt
   work_own s (Pos2 at) own box = tt
@@ -120,6 +125,7 @@ module _ (player : ℕ) where
   work_own s (Undo count) own box = record { read = All-nil (IsOwnBox player); written = λ clip. All-nil (IsOwnBox player) }
   work_own s command own box = absurd own
 
+  -- the step of each command, refused or not
   step_own : (s : Session) (refusal : Option Refusal) (found : Option Work) → IfSome found IsOwnWork → IsOwnStep (option_map_or Refused refusal (option_map_or (job_of s) found Settled))
   step_own s (Some refusal) found own = record { read = All-nil (IsOwnBox player); written = All-nil (IsOwnBox player) }
   step_own s None None own = record { read = All-nil (IsOwnBox player); written = All-nil (IsOwnBox player) }
@@ -128,6 +134,7 @@ module _ (player : ℕ) where
   -- ---- the whole script
 
   module _ (depth : ℕ) (lines : List Line) (all : All (λ line. IsOwnCommand player line.command) lines) where
+    -- the session before each command
     session_own : (n : ℕ) → IsOwnSession (session_at player depth lines n)
     session_own =
         kept_by_commands player depth lines IsOwnSession (record { kind = refl; first = tt; second = tt })
