@@ -1,3 +1,4 @@
 pub mod Census
 pub mod CountLemmas
 pub mod Tallies
+pub mod Unique

@@ -1,3 +1,7 @@
 pub mod LineLemmas
 pub mod GroundLemmas
+pub mod ScriptLemmas
 pub mod LimitLemmas
+pub mod ColumnLemmas
+pub mod SessionLemmas
+pub mod ApartLemmas

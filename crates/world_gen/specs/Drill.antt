@@ -1,5 +1,5 @@
 -- The drill: a workload that is made from a number (its world, its players and its draws are rules of this project).
-use Rattle.std.specs.Prelude.{ℕ, ◌+◌, ◌*◌, ◌%◌, if◌then◌else◌, List, [], ◌∷◌, map, get_or, None, Some, pos, int_lt, codes}
+use Rattle.std.specs.Prelude.{ℕ, ◌+◌, ◌*◌, ◌%◌, if◌then◌else◌, List, [], ◌∷◌, map, get_or, pos, int_lt, codes}
 use Rattle.std.specs.List.{range_with_len, flat_map}
 use Rattle.edit_terms.specs.declared.pos.Pos.{Pos}
 use Rattle.edit_terms.specs.declared.direction.Direction.TheVariants.{Up}

@@ -1,4 +1,4 @@
-use Rattle.std.proofs.Common.{◌≡◌, ◌∙◌, List, ap, sym, subst}
+use Rattle.std.proofs.Common.{◌∙◌, List, ap, sym, subst}
 use Rattle.edit_terms.specs.declared.script.Script.{Script}
 use Rattle.edit_terms.specs.World.{World}
 use Rattle.run_terms.specs.Limits.{IsWithinLimits}
