@@ -383,6 +383,44 @@ fn other_keys_have_no_value(rt: HostRuntime) -> Result<(), Fail> {
     Ok(())
 }
 
+/// `minecraft:oak_stairs[facing=east,half=top]`
+fn stairs(alloc: Global) -> Result<BlockState, Fail> {
+    let pairs = [("facing", "east"), ("half", "top")];
+    state_of(alloc, "minecraft:oak_stairs", &pairs)
+}
+
+/// A state shows the stairs' name and properties, and is equal to them.
+fn assert_stairs(rt: &impl Abort, state: &BlockState, stairs: &BlockState) {
+    assert_eq!(rt; state.name(), b"minecraft:oak_stairs".as_slice());
+    assert_pairs(
+        rt,
+        state.properties(),
+        &[("facing", "east"), ("half", "top")],
+    );
+    assert_same(rt, state, stairs);
+}
+
+#[test]
+fn copied_states_are_equal(rt: HostRuntime) -> Result<(), Fail> {
+    let alloc = rt.alloc();
+    let own = stairs(alloc)?;
+    assert_stairs(&rt, &own, &own);
+    let copied = own.copy(alloc)?;
+    assert_stairs(&rt, &copied, &own);
+    assert_stairs(&rt, &copied.copy(alloc)?, &copied);
+    Ok(())
+}
+
+#[test]
+fn shared_states_are_equal(rt: HostRuntime) -> Result<(), Fail> {
+    let alloc = rt.alloc();
+    let own = stairs(alloc)?;
+    let shared = stairs(alloc)?.share(alloc)?;
+    assert_stairs(&rt, &shared, &own);
+    assert_stairs(&rt, &shared.copy(alloc)?.share(alloc)?, &own);
+    Ok(())
+}
+
 #[test]
 fn states_are_equal_by_name_and_properties(rt: HostRuntime) -> Result<(), Fail> {
     let alloc = rt.alloc();
@@ -406,25 +444,21 @@ fn states_are_equal_by_name_and_properties(rt: HostRuntime) -> Result<(), Fail> 
             &[("facing", "east"), ("half", "top"), ("shape", "straight")],
         ),
     ];
-    let pairs = [("facing", "east"), ("half", "top")];
-    let own = state_of(alloc, "minecraft:oak_stairs", &pairs)?;
-    let shared = own.copy(alloc)?;
-    let shared_again = shared.copy(alloc)?;
-    let handed_on = own.copy(alloc)?.share(alloc)?;
-    let handed_over = state_of(alloc, "minecraft:oak_stairs", &pairs)?.share(alloc)?;
-    for state in [&own, &shared, &shared_again, &handed_on, &handed_over] {
-        assert_eq!(rt; state.name(), b"minecraft:oak_stairs".as_slice());
-        assert_pairs(&rt, state.properties(), &pairs);
-        assert_same(&rt, state, &own);
-        assert_same(&rt, state, &shared);
-    }
     for (name, pairs) in others {
         let other = state_of(alloc, name, pairs)?;
-        assert_other(&rt, &own, &other);
-        assert_other(&rt, &shared, &other);
-        assert_other(&rt, &shared, &other.copy(alloc)?);
-        assert_same(&rt, &other, &other.copy(alloc)?);
+        assert_no_stairs(&rt, alloc, &other)?;
     }
+    Ok(())
+}
+
+/// A state is other than the stairs, owned and shared.
+fn assert_no_stairs(rt: &impl Abort, alloc: Global, other: &BlockState) -> Result<(), Fail> {
+    let own = stairs(alloc)?;
+    assert_other(rt, &own, other);
+    assert_other(rt, &own.copy(alloc)?, other);
+    let copied = other.copy(alloc)?;
+    assert_other(rt, &own, &copied);
+    assert_same(rt, other, &copied);
     Ok(())
 }
 
@@ -501,18 +535,39 @@ fn assert_air(rt: &impl Abort, alloc: Global, name: &str, is_air: bool) -> Resul
     Ok(())
 }
 
+/// A chest with an entity.
+fn full_chest(alloc: Global) -> Result<Content, Fail> {
+    let state = state_of(alloc, "minecraft:chest", &[("facing", "north")])?;
+    let entity = entity_of(alloc, b"\x08\x00\x02Id", b"\x00")?;
+    Ok(Content {
+        state,
+        entity: Some(entity),
+    })
+}
+
 #[test]
 fn contents_share_state_and_entity(rt: HostRuntime) -> Result<(), Fail> {
     let alloc = rt.alloc();
-    let chest = Content {
-        state: state_of(alloc, "minecraft:chest", &[("facing", "north")])?,
-        entity: Some(entity_of(alloc, b"\x08\x00\x02Id", b"\x00")?),
-    };
-    let copied = chest.copy(alloc)?.copy(alloc)?;
-    assert!(rt; copied.state == chest.state);
-    let entity = copied.entity.ok_or("an entity")?;
-    assert_eq!(rt; entity.before(), b"\x08\x00\x02Id".as_slice());
-    assert_eq!(rt; entity.after(), b"\x00".as_slice());
+    let chest = full_chest(alloc)?;
+    let copied = chest.copy(alloc)?;
+    assert_chest(&rt, &copied, &chest);
+    assert_chest(&rt, &copied.copy(alloc)?, &chest);
+    Ok(())
+}
+
+/// A content has the state of the chest and an entity of its bytes.
+fn assert_chest(rt: &impl Abort, content: &Content, chest: &Content) {
+    assert!(rt; content.state == chest.state);
+    assert!(rt; content.entity.is_some());
+    if let Some(entity) = &content.entity {
+        assert_eq!(rt; entity.before(), b"\x08\x00\x02Id".as_slice());
+        assert_eq!(rt; entity.after(), b"\x00".as_slice());
+    }
+}
+
+#[test]
+fn copied_contents_without_entity(rt: HostRuntime) -> Result<(), Fail> {
+    let alloc = rt.alloc();
     let stone = Content {
         state: state_of(alloc, "minecraft:stone", &[])?,
         entity: None,
