@@ -99,20 +99,24 @@ mod tests {
         count
     }
 
-    #[test]
-    fn list_of_one_chest(rt: HostRuntime) -> Result<(), Fail> {
-        let alloc = rt.alloc();
+    /// A chest with an entity at -1,2,3.
+    fn chest(alloc: Global) -> Result<Single, Fail> {
         let name = Name::from_vec(Vec::from_slice(alloc, b"minecraft:chest")?);
         let name = BlockName::from_name(name).ok_or("a block name")?;
         let properties = Properties::from_pairs(Vec::new(alloc)).ok_or("no properties")?;
         let entity = Entity::new(Vec::from_slice(alloc, b"before")?, Vec::new(alloc));
-        let list = Single {
+        Ok(Single {
             at: Pos { x: -1, y: 2, z: 3 },
             content: Content {
                 state: BlockState::new(name, properties),
                 entity: Some(Arc::new(alloc, entity)?),
             },
-        };
+        })
+    }
+
+    #[test]
+    fn list_of_one_chest(rt: HostRuntime) -> Result<(), Fail> {
+        let list = chest(rt.alloc())?;
         assert_eq!(rt; list.len(), 1);
         assert_eq!(rt; list.at(0), Pos { x: -1, y: 2, z: 3 });
         assert_eq!(rt; list.state(0).name(), b"minecraft:chest".as_slice());

@@ -28,13 +28,12 @@ fn term(alloc: Global, signs: &[Sign], leaf: Leaf) -> Result<Term, Fail> {
 /// `!>oak_stairs[half=top] ^[half=top] %7 #existing #selection`
 fn mask(alloc: Global) -> Result<Mask, Fail> {
     let states = Items::from_vec(vec![in alloc; stairs(alloc)?]?);
-    let terms = vec![in alloc;
-        term(alloc, &[Sign::Not, Sign::Below], Leaf::OneOf(states))?,
-        term(alloc, &[], Leaf::Has(upper_half(alloc)?))?,
-        term(alloc, &[], Leaf::Noise(7))?,
-        term(alloc, &[], Leaf::Existing)?,
-        term(alloc, &[], Leaf::InSelection)?,
-    ]?;
+    let mut terms = Vec::new(alloc);
+    terms.push(term(alloc, &[Sign::Not, Sign::Below], Leaf::OneOf(states))?)?;
+    terms.push(term(alloc, &[], Leaf::Has(upper_half(alloc)?))?)?;
+    for leaf in [Leaf::Noise(7), Leaf::Existing, Leaf::InSelection] {
+        terms.push(term(alloc, &[], leaf)?)?;
+    }
     Ok(Mask {
         terms: Items::from_vec(terms),
     })
@@ -62,6 +61,25 @@ fn is_that_mask(mask: &Mask, stairs: &BlockState) -> bool {
         && matches!(&fifth.leaf, Leaf::InSelection)
 }
 
+/// One entry of weight 3 with this state.
+fn pattern(alloc: Global, state: BlockState) -> Result<Pattern, Fail> {
+    let entry = Entry {
+        weight: 3,
+        value: Value::Fixed(state),
+    };
+    Ok(Pattern {
+        entries: Items::from_vec(vec![in alloc; entry]?),
+    })
+}
+
+/// Whether a pattern is the one above.
+fn is_that_pattern(pattern: &Pattern, stairs: &BlockState) -> bool {
+    let [entry] = pattern.entries.as_slice() else {
+        return false;
+    };
+    entry.weight == 3 && matches!(&entry.value, Value::Fixed(state) if *state == *stairs)
+}
+
 /// Takes what threads may share.
 fn is_for_threads<T: Send + Sync>(_value: &T) {}
 
@@ -70,15 +88,22 @@ fn copied_masks(rt: HostRuntime) -> Result<(), Fail> {
     let alloc = rt.alloc();
     let stairs = stairs(alloc)?;
     let own = mask(alloc)?;
+    assert!(rt; is_that_mask(&own, &stairs));
     let copied = own.copy(alloc)?;
-    let copied_again = copied.copy(alloc)?;
+    drop(own);
+    assert!(rt; is_that_mask(&copied, &stairs));
+    assert!(rt; is_that_mask(&copied.copy(alloc)?, &stairs));
+    Ok(())
+}
+
+#[test]
+fn shared_masks(rt: HostRuntime) -> Result<(), Fail> {
+    let alloc = rt.alloc();
     let shared = Mask {
         terms: mask(alloc)?.terms.share(alloc)?.share(alloc)?,
     };
     is_for_threads(&shared);
-    for mask in [&own, &copied, &copied_again, &shared] {
-        assert!(rt; is_that_mask(mask, &stairs));
-    }
+    assert!(rt; is_that_mask(&shared, &stairs(alloc)?));
     Ok(())
 }
 
@@ -86,23 +111,12 @@ fn copied_masks(rt: HostRuntime) -> Result<(), Fail> {
 fn copied_patterns(rt: HostRuntime) -> Result<(), Fail> {
     let alloc = rt.alloc();
     let stairs = stairs(alloc)?;
-    let own = Pattern {
-        entries: Items::from_vec(vec![in alloc;
-            Entry {
-                weight: 3,
-                value: Value::Fixed(stairs.copy(alloc)?)
-            },
-        ]?),
-    };
+    let own = pattern(alloc, stairs.copy(alloc)?)?;
+    assert!(rt; is_that_pattern(&own, &stairs));
     let copied = own.copy(alloc)?;
-    let copied_again = copied.copy(alloc)?;
+    drop(own);
     is_for_threads(&copied);
-    for pattern in [&own, &copied, &copied_again] {
-        let [entry] = pattern.entries.as_slice() else {
-            return Err("one entry".into());
-        };
-        assert_eq!(rt; entry.weight, 3);
-        assert!(rt; matches!(&entry.value, Value::Fixed(state) if *state == stairs));
-    }
+    assert!(rt; is_that_pattern(&copied, &stairs));
+    assert!(rt; is_that_pattern(&copied.copy(alloc)?, &stairs));
     Ok(())
 }

@@ -28,12 +28,17 @@ fn word_of(alloc: Global, count: usize) -> Result<Vec<u8>, Memory> {
     Ok(bytes)
 }
 
+fn pair_of(alloc: Global, key: &str, value: &str) -> Result<(Name, Name), Memory> {
+    Ok((
+        name_of(alloc, key.as_bytes())?,
+        name_of(alloc, value.as_bytes())?,
+    ))
+}
+
 fn properties_of(alloc: Global, pairs: &[(&str, &str)]) -> Result<Option<Properties>, Memory> {
     let mut made = Vec::new(alloc);
     for pair in pairs {
-        let key = name_of(alloc, pair.0.as_bytes())?;
-        let value = name_of(alloc, pair.1.as_bytes())?;
-        made.push((key, value))?;
+        made.push(pair_of(alloc, pair.0, pair.1)?)?;
     }
     Ok(Properties::from_pairs(made))
 }
@@ -132,20 +137,28 @@ fn blocks_of_a_box_are_listed_by_x_then_z_then_y(rt: HostRuntime) -> Result<(), 
         ([i32::MIN, i32::MIN, i32::MIN], None),
         ([i32::MAX, i32::MAX, i32::MAX], None),
     ] {
-        let p = at(p);
-        assert_eq!(rt; area.index_of(p), index, "{p:?}");
-        assert_eq!(rt; area.holds(p), index.is_some(), "{p:?}");
-        if let Some(index) = index {
-            assert_eq!(rt; area.position(index), Some(p), "{p:?}");
-        }
+        assert_index(&rt, &area, at(p), index);
     }
     for index in [30, 31, u32::MAX] {
         assert_eq!(rt; area.position(index), None, "{index}");
     }
+    Ok(())
+}
+
+/// A position has this index in a box. None: it doesn't lie there.
+fn assert_index(rt: &impl Abort, area: &WorldBox, p: Pos, index: Option<u32>) {
+    assert_eq!(rt; area.index_of(p), index, "{p:?}");
+    assert_eq!(rt; area.holds(p), index.is_some(), "{p:?}");
+    if let Some(index) = index {
+        assert_eq!(rt; area.position(index), Some(p), "{p:?}");
+    }
+}
+
+#[test]
+fn last_block_of_the_largest_box(rt: HostRuntime) -> Result<(), Fail> {
     let largest = WorldBox::new(at([-4_096, -2_048, 9]), 8_192, 4_096, 1).ok_or("a world's box")?;
     assert_eq!(rt; largest.volume(), 33_554_432);
-    assert_eq!(rt; largest.index_of(at([4_095, 2_047, 9])), Some(33_554_431));
-    assert_eq!(rt; largest.position(33_554_431), Some(at([4_095, 2_047, 9])));
+    assert_index(&rt, &largest, at([4_095, 2_047, 9]), Some(33_554_431));
     assert_eq!(rt; largest.position(33_554_432), None);
     Ok(())
 }
@@ -204,7 +217,6 @@ fn chunks_are_numbered_by_x_then_z(rt: HostRuntime) -> Result<(), Fail> {
 #[test]
 fn block_names_have_a_namespace_and_a_path(rt: HostRuntime) -> Result<(), Fail> {
     let alloc = rt.alloc();
-    let mut longest = name_of(alloc, b"")?;
     for (start, more, made) in [
         ("minecraft:stone", 0, true),
         ("a:b", 0, true),
@@ -229,18 +241,27 @@ fn block_names_have_a_namespace_and_a_path(rt: HostRuntime) -> Result<(), Fail> 
         ("a:b\n", 0, false),
         ("a:\u{e9}", 0, false),
     ] {
-        let mut bytes = Vec::from_slice(alloc, start.as_bytes())?;
-        bytes.extend_from_slice(&word_of(alloc, more)?)?;
-        let name = BlockName::from_name(name_of(alloc, &bytes)?);
-        assert_eq!(rt; name.is_some(), made, "{start} and {more} more");
-        if let Some(name) = name {
-            assert_eq!(rt; name.as_slice(), bytes.as_slice());
-            let copied = name.copy(alloc)?;
-            assert_eq!(rt; copied.as_slice(), bytes.as_slice());
-            longest = name_of(alloc, copied.as_slice())?;
-        }
+        assert_block_name(&rt, alloc, start, more, made)?;
     }
-    assert_eq!(rt; longest.as_slice().len(), 256);
+    Ok(())
+}
+
+/// Whether these bytes and so many `x` more are a block's name.
+fn assert_block_name(
+    rt: &impl Abort,
+    alloc: Global,
+    start: &str,
+    more: usize,
+    made: bool,
+) -> Result<(), Memory> {
+    let mut bytes = Vec::from_slice(alloc, start.as_bytes())?;
+    bytes.extend_from_slice(&word_of(alloc, more)?)?;
+    let name = BlockName::from_name(name_of(alloc, &bytes)?);
+    assert_eq!(rt; name.is_some(), made, "{start} and {more} more");
+    if let Some(name) = name {
+        assert_eq!(rt; name.as_slice(), bytes.as_slice());
+        assert_eq!(rt; name.copy(alloc)?.as_slice(), bytes.as_slice());
+    }
     Ok(())
 }
 
@@ -266,12 +287,23 @@ fn keys_of_properties_rise(rt: HostRuntime) -> Result<(), Fail> {
         (&[("a", "0"), ("b", "0.1")], false),
     ];
     for (pairs, made) in cases {
-        let properties = properties_of(alloc, pairs)?;
-        assert_eq!(rt; properties.is_some(), made, "{pairs:?}");
-        if let Some(properties) = properties {
-            assert_pairs(&rt, &properties, pairs);
-            assert_pairs(&rt, &properties.copy(alloc)?, pairs);
-        }
+        assert_properties(&rt, alloc, pairs, made)?;
+    }
+    Ok(())
+}
+
+/// Whether these pairs are properties.
+fn assert_properties(
+    rt: &impl Abort,
+    alloc: Global,
+    pairs: &[(&str, &str)],
+    made: bool,
+) -> Result<(), Memory> {
+    let properties = properties_of(alloc, pairs)?;
+    assert_eq!(rt; properties.is_some(), made, "{pairs:?}");
+    if let Some(properties) = properties {
+        assert_pairs(rt, &properties, pairs);
+        assert_pairs(rt, &properties.copy(alloc)?, pairs);
     }
     Ok(())
 }
@@ -279,10 +311,14 @@ fn keys_of_properties_rise(rt: HostRuntime) -> Result<(), Fail> {
 fn assert_pairs(rt: &impl Abort, properties: &Properties, pairs: &[(&str, &str)]) {
     assert_eq!(rt; properties.as_slice().len(), pairs.len());
     for (made, pair) in properties.as_slice().iter().zip(pairs) {
-        assert_eq!(rt; made.0.as_slice(), pair.0.as_bytes());
-        assert_eq!(rt; made.1.as_slice(), pair.1.as_bytes());
+        assert_pair(rt, made, pair.0.as_bytes(), pair.1.as_bytes());
         assert_eq!(rt; properties.get(pair.0.as_bytes()), Some(pair.1.as_bytes()));
     }
+}
+
+fn assert_pair(rt: &impl Abort, made: &(Name, Name), key: &[u8], value: &[u8]) {
+    assert_eq!(rt; made.0.as_slice(), key);
+    assert_eq!(rt; made.1.as_slice(), value);
 }
 
 /// So many properties, with keys and values of these lengths; keys are at least two bytes long.
@@ -325,7 +361,13 @@ fn properties_are_made_up_to_their_limits(rt: HostRuntime) -> Result<(), Fail> {
             "{count} of {key_len} and {value_len}"
         );
     }
-    let one = properties_of(alloc, &[("facing", "east"), ("half", "top")])?.ok_or("properties")?;
+    Ok(())
+}
+
+#[test]
+fn other_keys_have_no_value(rt: HostRuntime) -> Result<(), Fail> {
+    let pairs = [("facing", "east"), ("half", "top")];
+    let one = properties_of(rt.alloc(), &pairs)?.ok_or("properties")?;
     for key in [
         "",
         "f",
@@ -338,6 +380,44 @@ fn properties_are_made_up_to_their_limits(rt: HostRuntime) -> Result<(), Fail> {
     ] {
         assert!(rt; one.get(key.as_bytes()).is_none(), "{key}");
     }
+    Ok(())
+}
+
+/// `minecraft:oak_stairs[facing=east,half=top]`
+fn stairs(alloc: Global) -> Result<BlockState, Fail> {
+    let pairs = [("facing", "east"), ("half", "top")];
+    state_of(alloc, "minecraft:oak_stairs", &pairs)
+}
+
+/// A state shows the stairs' name and properties, and is equal to them.
+fn assert_stairs(rt: &impl Abort, state: &BlockState, stairs: &BlockState) {
+    assert_eq!(rt; state.name(), b"minecraft:oak_stairs".as_slice());
+    assert_pairs(
+        rt,
+        state.properties(),
+        &[("facing", "east"), ("half", "top")],
+    );
+    assert_same(rt, state, stairs);
+}
+
+#[test]
+fn copied_states_are_equal(rt: HostRuntime) -> Result<(), Fail> {
+    let alloc = rt.alloc();
+    let own = stairs(alloc)?;
+    assert_stairs(&rt, &own, &own);
+    let copied = own.copy(alloc)?;
+    assert_stairs(&rt, &copied, &own);
+    assert_stairs(&rt, &copied.copy(alloc)?, &copied);
+    Ok(())
+}
+
+#[test]
+fn shared_states_are_equal(rt: HostRuntime) -> Result<(), Fail> {
+    let alloc = rt.alloc();
+    let own = stairs(alloc)?;
+    let shared = stairs(alloc)?.share(alloc)?;
+    assert_stairs(&rt, &shared, &own);
+    assert_stairs(&rt, &shared.copy(alloc)?.share(alloc)?, &own);
     Ok(())
 }
 
@@ -364,27 +444,32 @@ fn states_are_equal_by_name_and_properties(rt: HostRuntime) -> Result<(), Fail> 
             &[("facing", "east"), ("half", "top"), ("shape", "straight")],
         ),
     ];
-    let pairs = [("facing", "east"), ("half", "top")];
-    let own = state_of(alloc, "minecraft:oak_stairs", &pairs)?;
-    let shared = own.copy(alloc)?;
-    let shared_again = shared.copy(alloc)?;
-    let handed_on = own.copy(alloc)?.share(alloc)?;
-    let handed_over = state_of(alloc, "minecraft:oak_stairs", &pairs)?.share(alloc)?;
-    for state in [&own, &shared, &shared_again, &handed_on, &handed_over] {
-        assert_eq!(rt; state.name(), b"minecraft:oak_stairs".as_slice());
-        assert_pairs(&rt, state.properties(), &pairs);
-        assert!(rt; *state == own && own == *state);
-        assert!(rt; *state == shared && shared == *state);
-        assert_eq!(rt; hash_of(state), hash_of(&own));
-        for (name, pairs) in others {
-            let other = state_of(alloc, name, pairs)?;
-            let copied = other.copy(alloc)?;
-            assert!(rt; *state != other && other != *state, "{name} {pairs:?}");
-            assert!(rt; *state != copied && copied == other, "{name} {pairs:?}");
-            assert!(rt; hash_of(state) != hash_of(&other), "{name} {pairs:?}");
-        }
+    for (name, pairs) in others {
+        let other = state_of(alloc, name, pairs)?;
+        assert_no_stairs(&rt, alloc, &other)?;
     }
     Ok(())
+}
+
+/// A state is other than the stairs, owned and shared.
+fn assert_no_stairs(rt: &impl Abort, alloc: Global, other: &BlockState) -> Result<(), Fail> {
+    let own = stairs(alloc)?;
+    assert_other(rt, &own, other);
+    assert_other(rt, &own.copy(alloc)?, other);
+    let copied = other.copy(alloc)?;
+    assert_other(rt, &own, &copied);
+    assert_same(rt, other, &copied);
+    Ok(())
+}
+
+fn assert_same(rt: &impl Abort, one: &BlockState, other: &BlockState) {
+    assert!(rt; *one == *other && *other == *one);
+    assert_eq!(rt; hash_of(one), hash_of(other));
+}
+
+fn assert_other(rt: &impl Abort, one: &BlockState, other: &BlockState) {
+    assert!(rt; *one != *other && *other != *one);
+    assert!(rt; hash_of(one) != hash_of(other));
 }
 
 #[test]
@@ -435,27 +520,54 @@ fn three_names_are_air(rt: HostRuntime) -> Result<(), Fail> {
         ("minecraft:airs", false),
         ("my:air", false),
     ] {
-        let bare = state_of(alloc, name, &[])?;
-        let other = state_of(alloc, name, &[("a", "b")])?;
-        for state in [&bare, &other, &bare.copy(alloc)?] {
-            assert_eq!(rt; state.is_air(), is_air, "{name}");
-        }
+        assert_air(&rt, alloc, name, is_air)?;
     }
     Ok(())
+}
+
+/// Whether the states of this name are air.
+fn assert_air(rt: &impl Abort, alloc: Global, name: &str, is_air: bool) -> Result<(), Fail> {
+    let bare = state_of(alloc, name, &[])?;
+    assert_eq!(rt; bare.is_air(), is_air, "{name}");
+    assert_eq!(rt; bare.copy(alloc)?.is_air(), is_air, "{name}");
+    let other = state_of(alloc, name, &[("a", "b")])?;
+    assert_eq!(rt; other.is_air(), is_air, "{name}");
+    Ok(())
+}
+
+/// A chest with an entity.
+fn full_chest(alloc: Global) -> Result<Content, Fail> {
+    let state = state_of(alloc, "minecraft:chest", &[("facing", "north")])?;
+    let entity = entity_of(alloc, b"\x08\x00\x02Id", b"\x00")?;
+    Ok(Content {
+        state,
+        entity: Some(entity),
+    })
 }
 
 #[test]
 fn contents_share_state_and_entity(rt: HostRuntime) -> Result<(), Fail> {
     let alloc = rt.alloc();
-    let chest = Content {
-        state: state_of(alloc, "minecraft:chest", &[("facing", "north")])?,
-        entity: Some(entity_of(alloc, b"\x08\x00\x02Id", b"\x00")?),
-    };
-    let copied = chest.copy(alloc)?.copy(alloc)?;
-    assert!(rt; copied.state == chest.state);
-    let entity = copied.entity.ok_or("an entity")?;
-    assert_eq!(rt; entity.before(), b"\x08\x00\x02Id".as_slice());
-    assert_eq!(rt; entity.after(), b"\x00".as_slice());
+    let chest = full_chest(alloc)?;
+    let copied = chest.copy(alloc)?;
+    assert_chest(&rt, &copied, &chest);
+    assert_chest(&rt, &copied.copy(alloc)?, &chest);
+    Ok(())
+}
+
+/// A content has the state of the chest and an entity of its bytes.
+fn assert_chest(rt: &impl Abort, content: &Content, chest: &Content) {
+    assert!(rt; content.state == chest.state);
+    assert!(rt; content.entity.is_some());
+    if let Some(entity) = &content.entity {
+        assert_eq!(rt; entity.before(), b"\x08\x00\x02Id".as_slice());
+        assert_eq!(rt; entity.after(), b"\x00".as_slice());
+    }
+}
+
+#[test]
+fn copied_contents_without_entity(rt: HostRuntime) -> Result<(), Fail> {
+    let alloc = rt.alloc();
     let stone = Content {
         state: state_of(alloc, "minecraft:stone", &[])?,
         entity: None,
@@ -489,8 +601,13 @@ fn a_grid_has_a_state_at_each_block(rt: HostRuntime) -> Result<(), Fail> {
     for (cells, made) in cases {
         assert_eq!(rt; grid_of(alloc, cells)?.is_some(), made, "{cells:?}");
     }
+    Ok(())
+}
+
+#[test]
+fn a_grid_answers_with_its_states(rt: HostRuntime) -> Result<(), Fail> {
     let cells = [0, 1, 2, 0, 1, 2, 0, 1];
-    let grid = grid_of(alloc, &cells)?.ok_or("a grid")?;
+    let grid = grid_of(rt.alloc(), &cells)?.ok_or("a grid")?;
     assert_eq!(rt; grid.cells(), cells.as_slice());
     assert_eq!(rt; grid.kinds().len(), 3);
     assert_eq!(rt; grid.area().volume(), 8);
@@ -505,15 +622,19 @@ fn a_grid_has_a_state_at_each_block(rt: HostRuntime) -> Result<(), Fail> {
         ([0, 2, 0], None),
         ([0, 0, -2], None),
     ] {
-        let p = at(p);
-        let found = grid.get(p);
-        assert_eq!(rt; found.is_some(), name.is_some(), "{p:?}");
-        if let (Some(state), Some(name)) = (found, name) {
-            assert!(rt; state.name().ends_with(name.as_bytes()), "{p:?}");
-        }
-        assert!(rt; grid.entity(p).is_none(), "{p:?}");
+        assert_state_at(&rt, &grid, at(p), name);
     }
     Ok(())
+}
+
+/// A block has the state of this name, and no entity. No name: there is no block.
+fn assert_state_at(rt: &impl Abort, grid: &Grid, p: Pos, name: Option<&str>) {
+    let found = grid.get(p);
+    assert_eq!(rt; found.is_some(), name.is_some(), "{p:?}");
+    if let (Some(state), Some(name)) = (found, name) {
+        assert!(rt; state.name().ends_with(name.as_bytes()), "{p:?}");
+    }
+    assert!(rt; grid.entity(p).is_none(), "{p:?}");
 }
 
 /// A grid with an entity of this byte at each of these positions.
@@ -548,11 +669,22 @@ fn entities_of_a_grid_rise_in_index_order(rt: HostRuntime) -> Result<(), Fail> {
         (&[([-1, 0, -1], 1), ([0, 2, 0], 2)], false),
     ];
     for (placed, made) in cases {
-        let grid = grid_with_entities(alloc, placed)?;
-        assert_eq!(rt; grid.is_some(), made, "{placed:?}");
-        if let Some(grid) = grid {
-            assert_entities(&rt, &grid, placed);
-        }
+        assert_placed(&rt, alloc, placed, made)?;
+    }
+    Ok(())
+}
+
+/// Whether a grid may have these entities.
+fn assert_placed(
+    rt: &impl Abort,
+    alloc: Global,
+    placed: &[([i32; 3], u8)],
+    made: bool,
+) -> Result<(), Fail> {
+    let grid = grid_with_entities(alloc, placed)?;
+    assert_eq!(rt; grid.is_some(), made, "{placed:?}");
+    if let Some(grid) = grid {
+        assert_entities(rt, &grid, placed);
     }
     Ok(())
 }
@@ -582,13 +714,16 @@ fn lists_are_equal_item_by_item(rt: HostRuntime) -> Result<(), Fail> {
     assert!(rt; copied == name);
     assert_eq!(rt; hash_of(&copied), hash_of(&name));
     for other in ["", "ann", "annas", "Anna", "nana"] {
-        let other = name_of(alloc, other.as_bytes())?;
-        assert!(rt; other != name);
-        assert!(rt; hash_of(&other) != hash_of(&name));
+        assert_other_name(&rt, &name, &name_of(alloc, other.as_bytes())?);
     }
     let numbers = Items::from_vec(Vec::from_slice(alloc, &[3_u32, 1, 2])?);
     assert_eq!(rt; numbers.as_slice(), [3, 1, 2].as_slice());
     Ok(())
+}
+
+fn assert_other_name(rt: &impl Abort, one: &Name, other: &Name) {
+    assert!(rt; *one != *other && *other != *one);
+    assert!(rt; hash_of(one) != hash_of(other));
 }
 
 /// The laws and the calls that tell a form have nothing to answer; they return.
