@@ -12,7 +12,7 @@ use Rattle.edit_terms.specs.declared.outcome.Reply.{Reply}
 use Rattle.edit_terms.specs.declared.outcome.Reply.TheVariants.{Accepted}
 use Rattle.edit_terms.specs.declared.script.Script.{Script}
 use Rattle.run_terms.specs.Limits.{IsWithinLimits}
-use Rattle.run_terms.specs.Order.{turns_of, lines_of, ticket_of, IsWholeOrder}
+use Rattle.run_terms.specs.Order.{turns_of, ticket_of, IsWholeOrder}
 use Rattle.run_terms.specs.Reply.{reply_of, replies_of, IsOutcome}
 use Rattle.run_terms.specs.Workload.{Workload}
 use Rattle.edit_terms.specs.Grid.{world_of}

@@ -6,7 +6,6 @@ use Rattle.edit_top.specs.declared.status.Status.{Status}
 use Rattle.edit_top.specs.declared.status.Status.TheVariants.{Done, Usage, ReadFault, TooLong, WorldRefused, ScriptRefused, DuplicatePlayer, TooManyJobs, SaveFault, PrintFault, OutOfMemory}
 use Rattle.edit_top.specs.CheckEnds.{Prints}
 use Rattle.edit_top.specs.DrillEnds.{DrillEnds, IsDrillOf, IsGoodDrill}
-use Rattle.edit_top.specs.DrillText.{drilled_by}
 use Rattle.edit_top.specs.Ends.{IsDoneOrMemory, IsNoFailure}
 
 -- a drill whose text was printed so ends so

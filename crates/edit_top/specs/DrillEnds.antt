@@ -1,5 +1,5 @@
 -- What stands after each ending of a drill, and why it came.
-use Rattle.std.specs.Prelude.{◌≡◌, ℕ, List, Option, Some, None, codes}
+use Rattle.std.specs.Prelude.{◌≡◌, ℕ, List, Some, None, codes}
 use Rattle.run_ports.specs.Output.{OutputState, IsAppended}
 use Rattle.edit_top.specs.declared.status.Status.{Status}
 use Rattle.edit_top.specs.declared.status.Status.TheVariants.{Done, Usage, PrintFault, OutOfMemory}

@@ -1,5 +1,5 @@
 -- The words of a drill, and the text that tells what its run left.
-use Rattle.std.specs.Prelude.{◌≡◌, ℕ, List, [], ◌∷◌, ◌++◌, length, map, get_or, sum_by, Option, Some, None, if◌then◌else◌, codes, decimal, bytes_eq}
+use Rattle.std.specs.Prelude.{◌≡◌, ℕ, List, [], ◌∷◌, ◌++◌, length, map, get_or, sum_by, Option, None, if◌then◌else◌, codes, decimal, bytes_eq}
 use Rattle.std.specs.List.{range_with_len, flat_map}
 use Rattle.edit_terms.specs.declared.outcome.Reply.{Reply}
 use Rattle.edit_terms.specs.declared.outcome.Reply.TheVariants.{Accepted, Changed}

@@ -99,7 +99,12 @@ fn push_players(text: &mut Vec<u8>, scripts: &[Script], changed: &[u64]) -> Resu
     ensures { OnOk result (text.new.items ≡ text.old.items ++ flat_map player_text (map (λ player. (name_of scripts.now player, get_or changed.now player 0)) (range_with_len 0 (length scripts.now)))) }
 {
     for (player, script) in scripts.iter().enumerate() {
-        push_line(text, script.player.as_slice(), b" changed ", changed[player])?;
+        push_line(
+            text,
+            script.player.as_slice(),
+            b" changed ",
+            changed[player],
+        )?;
     }
     Ok(())
 }

@@ -1,6 +1,5 @@
-use Rattle.std.proofs.Common.{◌≡◌, ℕ, ◌+◌, ◌*◌, ◌<◌, ◌≤◌, length, get_or, take, ◌∙◌, arith}
+use Rattle.std.proofs.Common.{◌≡◌, ◌+◌, ◌<◌, length, get_or, ◌∙◌, arith}
 use Rattle.std.proofs.lemmas.List.{get_or_default, length-set}
-use Rattle.run_terms.specs.Order.{turns_of}
 use Rattle.edit_top.proofs.DrillCounts.{changed_step, few_step}
 use Rattle.edit_top.proofs.Printing.{turns_of-take}
 use Rattle.edit_top.proofs.drill_text.changed_by_players.Goals as goal

@@ -1,5 +1,4 @@
 use Rattle.std.proofs.Common.{ℕ, List, ◌++◌, get_or, ap, sym, ◌∙◌}
-use Rattle.std.specs.Prelude.{codes, decimal}
 use Rattle.edit_top.specs.RunText.{name_of}
 use Rattle.edit_top.specs.DrillText.{player_text}
 use Rattle.edit_top.proofs.DrillCounts.{lines_more}
