@@ -3,6 +3,7 @@
 use crate::{Memory, StateFault, TermFault, apply, read_state, transform, write_state};
 use edit_terms::{BlockName, BlockState, Name, Transform, Value};
 use std::alloc::Global;
+use std::process::Abort;
 use std::test::Fail;
 
 const SIXTEEN: &str = "x[p=0,o=0,n=0,m=0,l=0,k=0,j=0,i=0,h=0,g=0,f=0,e=0,d=0,c=0,b=0,a=0]";
@@ -18,10 +19,9 @@ fn written(alloc: Global, text: &[u8]) -> Result<Result<Vec<u8>, StateFault>, Me
 
 /// A text with so many bytes `x` between a start and an end.
 fn padded(alloc: Global, start: &str, count: usize, end: &str) -> Result<Vec<u8>, Memory> {
+    let middle = vec![in alloc; b'x'; count]?;
     let mut text = Vec::from_slice(alloc, start.as_bytes())?;
-    for _ in 0..count {
-        text.push(b'x')?;
-    }
+    text.extend_from_slice(&middle)?;
     text.extend_from_slice(end.as_bytes())?;
     Ok(text)
 }
@@ -58,71 +58,88 @@ fn a_state_is_read_and_written(rt: HostRuntime) -> Result<(), Fail> {
     Ok(())
 }
 
-#[test]
-fn a_text_is_refused_with_its_first_fault(rt: HostRuntime) -> Result<(), Fail> {
-    let alloc = rt.alloc();
-    for (text, fault) in [
-        ("", StateFault::BadName),
-        ("Stone", StateFault::BadName),
-        ("sto ne", StateFault::BadName),
-        (":stone", StateFault::BadName),
-        ("minecraft:", StateFault::BadName),
-        ("a:b:c", StateFault::BadName),
-        ("a/b:c", StateFault::BadName),
-        ("stone]", StateFault::BadName),
-        ("stone,dirt", StateFault::BadName),
-        ("a=b", StateFault::BadName),
-        ("[a=b]", StateFault::BadName),
-        ("Stone[a=", StateFault::BadName),
-        ("Stone[a=b,a=c]", StateFault::BadName),
-        ("stone[", StateFault::BadProperty),
-        ("stone[a=b", StateFault::BadProperty),
-        ("stone[a=b,a=c", StateFault::BadProperty),
-        ("stone[a=b,a=c]d", StateFault::BadProperty),
-        ("stone[a=b,a=c]]", StateFault::BadProperty),
-        ("stone[[a=b]", StateFault::BadProperty),
-        ("stone[a=b][c=d]", StateFault::BadProperty),
-        ("stone[]]", StateFault::BadProperty),
-        ("stone[][]", StateFault::BadProperty),
-        ("stone[a]", StateFault::BadProperty),
-        ("stone[a=]", StateFault::BadProperty),
-        ("stone[=b]", StateFault::BadProperty),
-        ("stone[a=b=c]", StateFault::BadProperty),
-        ("stone[,]", StateFault::BadProperty),
-        ("stone[,a=b]", StateFault::BadProperty),
-        ("stone[a=b,]", StateFault::BadProperty),
-        ("stone[A=b]", StateFault::BadProperty),
-        ("stone[a=b-c]", StateFault::BadProperty),
-        ("stone[a=b, c=d]", StateFault::BadProperty),
-        ("stone[a=b,c,a=d]", StateFault::BadProperty),
-        ("stone[a=b,a=]", StateFault::BadProperty),
-        ("stone[a=b,a=c]", StateFault::RepeatedKey),
-        ("stone[a=b,a=b]", StateFault::RepeatedKey),
-        ("stone[b=1,a=1,b=2]", StateFault::RepeatedKey),
-        ("stone[a=b,a=c,d]", StateFault::RepeatedKey),
-        (
-            "x[a=0,b=0,c=0,d=0,e=0,f=0,g=0,h=0,i=0,j=0,k=0,l=0,m=0,n=0,o=0,p=0,q]",
-            StateFault::BadProperty,
-        ),
-        (
-            "x[a=0,b=0,c=0,d=0,e=0,f=0,g=0,h=0,i=0,j=0,k=0,l=0,m=0,n=0,o=0,p=0,a=1]",
-            StateFault::RepeatedKey,
-        ),
-        (
-            "x[a=0,b=0,c=0,d=0,e=0,f=0,g=0,h=0,i=0,j=0,k=0,l=0,m=0,n=0,o=0,p=0,q=0]",
-            StateFault::TooManyProperties,
-        ),
-        (
-            "x[a=0,b=0,c=0,d=0,e=0,f=0,g=0,h=0,i=0,j=0,k=0,l=0,m=0,n=0,o=0,p=0,q=0,r,a=0]",
-            StateFault::TooManyProperties,
-        ),
-    ] {
-        let Err(found) = written(alloc, text.as_bytes())? else {
-            return Err("a fault".into());
-        };
-        assert_eq!(rt; found, fault, "{text}");
+/// Looks whether each text is refused with that fault.
+fn assert_refused(
+    rt: &impl Abort,
+    alloc: Global,
+    texts: &[&str],
+    fault: StateFault,
+) -> Result<(), Fail> {
+    for text in texts {
+        let found = written(alloc, text.as_bytes())?.err();
+        assert_eq!(rt; found, Some(fault), "{text}");
     }
     Ok(())
+}
+
+#[test]
+fn a_bad_name_is_refused(rt: HostRuntime) -> Result<(), Fail> {
+    let texts = [
+        "",
+        "Stone",
+        "sto ne",
+        ":stone",
+        "minecraft:",
+        "a:b:c",
+        "a/b:c",
+        "stone]",
+        "stone,dirt",
+        "a=b",
+        "[a=b]",
+        "Stone[a=",
+        "Stone[a=b,a=c]",
+    ];
+    assert_refused(&rt, rt.alloc(), &texts, StateFault::BadName)
+}
+
+#[test]
+fn a_bad_property_is_refused(rt: HostRuntime) -> Result<(), Fail> {
+    let texts = [
+        "stone[",
+        "stone[a=b",
+        "stone[a=b,a=c",
+        "stone[a=b,a=c]d",
+        "stone[a=b,a=c]]",
+        "stone[[a=b]",
+        "stone[a=b][c=d]",
+        "stone[]]",
+        "stone[][]",
+        "stone[a]",
+        "stone[a=]",
+        "stone[=b]",
+        "stone[a=b=c]",
+        "stone[,]",
+        "stone[,a=b]",
+        "stone[a=b,]",
+        "stone[A=b]",
+        "stone[a=b-c]",
+        "stone[a=b, c=d]",
+        "stone[a=b,c,a=d]",
+        "stone[a=b,a=]",
+        "x[a=0,b=0,c=0,d=0,e=0,f=0,g=0,h=0,i=0,j=0,k=0,l=0,m=0,n=0,o=0,p=0,q]",
+    ];
+    assert_refused(&rt, rt.alloc(), &texts, StateFault::BadProperty)
+}
+
+#[test]
+fn a_repeated_key_is_refused(rt: HostRuntime) -> Result<(), Fail> {
+    let texts = [
+        "stone[a=b,a=c]",
+        "stone[a=b,a=b]",
+        "stone[b=1,a=1,b=2]",
+        "stone[a=b,a=c,d]",
+        "x[a=0,b=0,c=0,d=0,e=0,f=0,g=0,h=0,i=0,j=0,k=0,l=0,m=0,n=0,o=0,p=0,a=1]",
+    ];
+    assert_refused(&rt, rt.alloc(), &texts, StateFault::RepeatedKey)
+}
+
+#[test]
+fn more_than_16_properties_are_refused(rt: HostRuntime) -> Result<(), Fail> {
+    let texts = [
+        "x[a=0,b=0,c=0,d=0,e=0,f=0,g=0,h=0,i=0,j=0,k=0,l=0,m=0,n=0,o=0,p=0,q=0]",
+        "x[a=0,b=0,c=0,d=0,e=0,f=0,g=0,h=0,i=0,j=0,k=0,l=0,m=0,n=0,o=0,p=0,q=0,r,a=0]",
+    ];
+    assert_refused(&rt, rt.alloc(), &texts, StateFault::TooManyProperties)
 }
 
 #[test]
@@ -147,108 +164,171 @@ fn names_and_words_have_their_greatest_length(rt: HostRuntime) -> Result<(), Fai
     Ok(())
 }
 
-#[test]
-fn states_are_turned_and_flipped(rt: HostRuntime) -> Result<(), Fail> {
-    let alloc = rt.alloc();
-    let still = (false, false);
-    let flip_x = (true, false);
-    let flip_y = (false, true);
-    for (text, (flip_x, flip_y), turns, form) in [
-        // facing
-        ("a[facing=north]", still, 1, "minecraft:a[facing=east]"),
-        ("a[facing=east]", still, 1, "minecraft:a[facing=south]"),
-        ("a[facing=south]", still, 1, "minecraft:a[facing=west]"),
-        ("a[facing=west]", still, 1, "minecraft:a[facing=north]"),
-        ("a[facing=up]", still, 1, "minecraft:a[facing=up]"),
-        ("a[facing=down]", still, 1, "minecraft:a[facing=down]"),
-        ("a[facing=north]", flip_x, 0, "minecraft:a[facing=north]"),
-        ("a[facing=east]", flip_x, 0, "minecraft:a[facing=west]"),
-        ("a[facing=south]", flip_x, 0, "minecraft:a[facing=south]"),
-        ("a[facing=west]", flip_x, 0, "minecraft:a[facing=east]"),
-        ("a[facing=up]", flip_x, 0, "minecraft:a[facing=up]"),
-        ("a[facing=north]", flip_y, 0, "minecraft:a[facing=north]"),
-        ("a[facing=east]", flip_y, 0, "minecraft:a[facing=east]"),
-        ("a[facing=up]", flip_y, 0, "minecraft:a[facing=down]"),
-        ("a[facing=down]", flip_y, 0, "minecraft:a[facing=up]"),
-        // a flip along z is one along x and two turns
-        ("a[facing=north]", flip_x, 2, "minecraft:a[facing=south]"),
-        ("a[facing=south]", flip_x, 2, "minecraft:a[facing=north]"),
-        ("a[facing=east]", flip_x, 2, "minecraft:a[facing=east]"),
-        ("a[facing=west]", flip_x, 2, "minecraft:a[facing=west]"),
-        // axis
-        ("a[axis=x]", still, 1, "minecraft:a[axis=z]"),
-        ("a[axis=y]", still, 1, "minecraft:a[axis=y]"),
-        ("a[axis=z]", still, 1, "minecraft:a[axis=x]"),
-        ("a[axis=x]", flip_x, 0, "minecraft:a[axis=x]"),
-        ("a[axis=y]", flip_y, 0, "minecraft:a[axis=y]"),
-        ("a[axis=z]", flip_x, 2, "minecraft:a[axis=z]"),
-        // sides as keys
-        (
-            "a[east=e,north=n,south=s,west=w]",
-            still,
-            1,
-            "minecraft:a[east=n,north=w,south=e,west=s]",
-        ),
-        (
-            "a[east=e,north=n,south=s,west=w]",
-            flip_x,
-            0,
-            "minecraft:a[east=w,north=n,south=s,west=e]",
-        ),
-        (
-            "a[east=e,north=n,south=s,west=w]",
-            flip_x,
-            2,
-            "minecraft:a[east=e,north=s,south=n,west=w]",
-        ),
-        (
-            "a[east=e,north=n,up=u,down=d]",
-            flip_y,
-            0,
-            "minecraft:a[down=d,east=e,north=n,up=u]",
-        ),
-        // what the table doesn't name stays
-        ("a[half=top]", flip_y, 1, "minecraft:a[half=top]"),
-        ("a[facing=x]", flip_x, 1, "minecraft:a[facing=x]"),
-        ("a[axis=north]", flip_x, 1, "minecraft:a[axis=north]"),
-        ("a[side=north]", flip_x, 1, "minecraft:a[side=north]"),
-        ("a[rotation=16]", flip_x, 1, "minecraft:a[rotation=16]"),
-        ("a[rotation=04]", flip_x, 1, "minecraft:a[rotation=04]"),
-        ("north:north", flip_x, 1, "north:north"),
-        // turns count modulo 4, and come behind the flips
-        ("a[facing=north]", still, 0, "minecraft:a[facing=north]"),
-        ("a[facing=north]", still, 2, "minecraft:a[facing=south]"),
-        ("a[facing=north]", still, 3, "minecraft:a[facing=west]"),
-        ("a[facing=north]", still, 4, "minecraft:a[facing=north]"),
-        ("a[facing=north]", still, 5, "minecraft:a[facing=east]"),
-        ("a[facing=north]", still, 255, "minecraft:a[facing=west]"),
-        ("a[facing=east]", flip_x, 1, "minecraft:a[facing=north]"),
-        ("a[facing=up]", (true, true), 3, "minecraft:a[facing=down]"),
-        (
-            "oak_stairs[facing=east,half=bottom]",
-            still,
-            1,
-            "minecraft:oak_stairs[facing=south,half=bottom]",
-        ),
-        (
-            "oak_stairs[facing=east,half=bottom]",
-            flip_x,
-            1,
-            "minecraft:oak_stairs[facing=north,half=bottom]",
-        ),
-        ("oak_log[axis=x]", still, 1, "minecraft:oak_log[axis=z]"),
-        ("oak_log[axis=x]", flip_x, 1, "minecraft:oak_log[axis=z]"),
-    ] {
-        let t = Transform {
-            flip_x,
-            flip_y,
-            turns,
-        };
+fn by(flip_x: bool, flip_y: bool, turns: u8) -> Transform {
+    Transform {
+        flip_x,
+        flip_y,
+        turns,
+    }
+}
+
+/// Looks whether the states of these texts become those of the others.
+fn assert_become(
+    rt: &impl Abort,
+    alloc: Global,
+    t: Transform,
+    cases: &[(&str, &str)],
+) -> Result<(), Fail> {
+    for (text, form) in cases {
         let turned = transform(alloc, &read_state(alloc, text.as_bytes())?, &t)?;
         let found = write_state(alloc, &turned)?;
         assert_eq!(rt; found.as_slice(), form.as_bytes(), "{text} {t:?}");
     }
     Ok(())
+}
+
+#[test]
+fn facings_are_turned(rt: HostRuntime) -> Result<(), Fail> {
+    let alloc = rt.alloc();
+    let cases = [
+        ("a[facing=north]", "minecraft:a[facing=east]"),
+        ("a[facing=east]", "minecraft:a[facing=south]"),
+        ("a[facing=south]", "minecraft:a[facing=west]"),
+        ("a[facing=west]", "minecraft:a[facing=north]"),
+        ("a[facing=up]", "minecraft:a[facing=up]"),
+        ("a[facing=down]", "minecraft:a[facing=down]"),
+    ];
+    assert_become(&rt, alloc, by(false, false, 1), &cases)
+}
+
+/// A flip along z is one along x and two turns.
+#[test]
+fn facings_are_flipped(rt: HostRuntime) -> Result<(), Fail> {
+    let alloc = rt.alloc();
+    let cases = [
+        ("a[facing=north]", "minecraft:a[facing=north]"),
+        ("a[facing=east]", "minecraft:a[facing=west]"),
+        ("a[facing=south]", "minecraft:a[facing=south]"),
+        ("a[facing=west]", "minecraft:a[facing=east]"),
+        ("a[facing=up]", "minecraft:a[facing=up]"),
+    ];
+    assert_become(&rt, alloc, by(true, false, 0), &cases)?;
+    let cases = [
+        ("a[facing=north]", "minecraft:a[facing=north]"),
+        ("a[facing=east]", "minecraft:a[facing=east]"),
+        ("a[facing=up]", "minecraft:a[facing=down]"),
+        ("a[facing=down]", "minecraft:a[facing=up]"),
+    ];
+    assert_become(&rt, alloc, by(false, true, 0), &cases)?;
+    let cases = [
+        ("a[facing=north]", "minecraft:a[facing=south]"),
+        ("a[facing=south]", "minecraft:a[facing=north]"),
+        ("a[facing=east]", "minecraft:a[facing=east]"),
+        ("a[facing=west]", "minecraft:a[facing=west]"),
+    ];
+    assert_become(&rt, alloc, by(true, false, 2), &cases)
+}
+
+#[test]
+fn axes_are_turned_and_flipped(rt: HostRuntime) -> Result<(), Fail> {
+    let alloc = rt.alloc();
+    let cases = [
+        ("a[axis=x]", "minecraft:a[axis=z]"),
+        ("a[axis=y]", "minecraft:a[axis=y]"),
+        ("a[axis=z]", "minecraft:a[axis=x]"),
+    ];
+    assert_become(&rt, alloc, by(false, false, 1), &cases)?;
+    let cases = [("a[axis=x]", "minecraft:a[axis=x]")];
+    assert_become(&rt, alloc, by(true, false, 0), &cases)?;
+    let cases = [("a[axis=y]", "minecraft:a[axis=y]")];
+    assert_become(&rt, alloc, by(false, true, 0), &cases)?;
+    let cases = [("a[axis=z]", "minecraft:a[axis=z]")];
+    assert_become(&rt, alloc, by(true, false, 2), &cases)
+}
+
+#[test]
+fn sides_are_turned_and_flipped(rt: HostRuntime) -> Result<(), Fail> {
+    let alloc = rt.alloc();
+    let cases = [(
+        "a[east=e,north=n,south=s,west=w]",
+        "minecraft:a[east=n,north=w,south=e,west=s]",
+    )];
+    assert_become(&rt, alloc, by(false, false, 1), &cases)?;
+    let cases = [(
+        "a[east=e,north=n,south=s,west=w]",
+        "minecraft:a[east=w,north=n,south=s,west=e]",
+    )];
+    assert_become(&rt, alloc, by(true, false, 0), &cases)?;
+    let cases = [(
+        "a[east=e,north=n,south=s,west=w]",
+        "minecraft:a[east=e,north=s,south=n,west=w]",
+    )];
+    assert_become(&rt, alloc, by(true, false, 2), &cases)?;
+    let cases = [(
+        "a[east=e,north=n,up=u,down=d]",
+        "minecraft:a[down=d,east=e,north=n,up=u]",
+    )];
+    assert_become(&rt, alloc, by(false, true, 0), &cases)
+}
+
+#[test]
+fn other_values_stay(rt: HostRuntime) -> Result<(), Fail> {
+    let alloc = rt.alloc();
+    let cases = [("a[half=top]", "minecraft:a[half=top]")];
+    assert_become(&rt, alloc, by(false, true, 1), &cases)?;
+    let cases = [
+        ("a[facing=x]", "minecraft:a[facing=x]"),
+        ("a[axis=north]", "minecraft:a[axis=north]"),
+        ("a[side=north]", "minecraft:a[side=north]"),
+        ("a[rotation=16]", "minecraft:a[rotation=16]"),
+        ("a[rotation=04]", "minecraft:a[rotation=04]"),
+        ("north:north", "north:north"),
+    ];
+    assert_become(&rt, alloc, by(true, false, 1), &cases)
+}
+
+#[test]
+fn turns_count_modulo_4(rt: HostRuntime) -> Result<(), Fail> {
+    for (turns, form) in [
+        (0, "minecraft:a[facing=north]"),
+        (2, "minecraft:a[facing=south]"),
+        (3, "minecraft:a[facing=west]"),
+        (4, "minecraft:a[facing=north]"),
+        (5, "minecraft:a[facing=east]"),
+        (255, "minecraft:a[facing=west]"),
+    ] {
+        let cases = [("a[facing=north]", form)];
+        assert_become(&rt, rt.alloc(), by(false, false, turns), &cases)?;
+    }
+    Ok(())
+}
+
+#[test]
+fn blocks_are_turned(rt: HostRuntime) -> Result<(), Fail> {
+    let cases = [
+        (
+            "oak_stairs[facing=east,half=bottom]",
+            "minecraft:oak_stairs[facing=south,half=bottom]",
+        ),
+        ("oak_log[axis=x]", "minecraft:oak_log[axis=z]"),
+    ];
+    assert_become(&rt, rt.alloc(), by(false, false, 1), &cases)
+}
+
+#[test]
+fn turns_come_behind_flips(rt: HostRuntime) -> Result<(), Fail> {
+    let alloc = rt.alloc();
+    let cases = [
+        ("a[facing=east]", "minecraft:a[facing=north]"),
+        (
+            "oak_stairs[facing=east,half=bottom]",
+            "minecraft:oak_stairs[facing=north,half=bottom]",
+        ),
+        ("oak_log[axis=x]", "minecraft:oak_log[axis=z]"),
+    ];
+    assert_become(&rt, alloc, by(true, false, 1), &cases)?;
+    let cases = [("a[facing=up]", "minecraft:a[facing=down]")];
+    assert_become(&rt, alloc, by(true, true, 3), &cases)
 }
 
 /// A state with a rotation.
@@ -259,29 +339,24 @@ fn rotated(alloc: Global, rotation: &str) -> Result<Vec<u8>, Memory> {
     Ok(text)
 }
 
+/// Looks whether a rotation becomes another.
+fn assert_rotated(
+    rt: &impl Abort,
+    alloc: Global,
+    rotation: &str,
+    t: Transform,
+    becomes: &str,
+) -> Result<(), Fail> {
+    let state = read_state(alloc, &rotated(alloc, rotation)?)?;
+    let found = write_state(alloc, &transform(alloc, &state, &t)?)?;
+    let wanted = rotated(alloc, becomes)?;
+    assert_eq!(rt; found, wanted, "{rotation} {t:?}");
+    Ok(())
+}
+
 #[test]
 fn rotations_are_sixteenths_of_a_turn(rt: HostRuntime) -> Result<(), Fail> {
     let alloc = rt.alloc();
-    let turn = Transform {
-        flip_x: false,
-        flip_y: false,
-        turns: 1,
-    };
-    let flip_x = Transform {
-        flip_x: true,
-        flip_y: false,
-        turns: 0,
-    };
-    let flip_z = Transform {
-        flip_x: true,
-        flip_y: false,
-        turns: 2,
-    };
-    let flip_y = Transform {
-        flip_x: false,
-        flip_y: true,
-        turns: 0,
-    };
     for (rotation, turned, by_x, by_z) in [
         ("0", "4", "0", "8"),
         ("1", "5", "15", "7"),
@@ -300,31 +375,44 @@ fn rotations_are_sixteenths_of_a_turn(rt: HostRuntime) -> Result<(), Fail> {
         ("14", "2", "2", "10"),
         ("15", "3", "1", "9"),
     ] {
-        let state = read_state(alloc, &rotated(alloc, rotation)?)?;
-        for (t, becomes) in [
-            (turn, turned),
-            (flip_x, by_x),
-            (flip_z, by_z),
-            (flip_y, rotation),
-        ] {
-            let found = write_state(alloc, &transform(alloc, &state, &t)?)?;
-            assert_eq!(rt; found, rotated(alloc, becomes)?, "{rotation} {t:?}");
-        }
+        assert_rotated(&rt, alloc, rotation, by(false, false, 1), turned)?;
+        assert_rotated(&rt, alloc, rotation, by(true, false, 0), by_x)?;
+        assert_rotated(&rt, alloc, rotation, by(true, false, 2), by_z)?;
+        assert_rotated(&rt, alloc, rotation, by(false, true, 0), rotation)?;
     }
     Ok(())
 }
 
-/// The state's text after a value, which is no clipboard.
-fn after(alloc: Global, old: &str, value: &Value) -> Result<Vec<u8>, Fail> {
-    if let Value::Clipboard = value {
-        return Err("a clipboard".into());
+/// The state after a value, which is no clipboard.
+fn applied(alloc: Global, old: &BlockState, value: &Value) -> Result<BlockState, Fail> {
+    match value {
+        Value::Clipboard => Err("a clipboard".into()),
+        _ => Ok(apply(alloc, old, value)?),
     }
-    let old = read_state(alloc, old.as_bytes())?;
-    Ok(write_state(alloc, &apply(alloc, &old, value)?)?)
+}
+
+/// Looks which state's text comes of a state's text and a value.
+fn assert_after(
+    rt: &impl Abort,
+    alloc: Global,
+    old: &str,
+    value: &Value,
+    form: &str,
+) -> Result<(), Fail> {
+    let before = state_of(alloc, old)?;
+    let found = write_state(alloc, &applied(alloc, &before, value)?)?;
+    assert_eq!(rt; found.as_slice(), form.as_bytes(), "{old} {form}");
+    Ok(())
 }
 
 fn state_of(alloc: Global, text: &str) -> Result<BlockState, StateFault> {
     read_state(alloc, text.as_bytes())
+}
+
+/// The pattern that puts the properties of this state's text.
+fn put(alloc: Global, text: &str) -> Result<Value, Fail> {
+    let state = state_of(alloc, text)?;
+    Ok(Value::Put(state.properties().copy(alloc)?))
 }
 
 #[test]
@@ -349,89 +437,91 @@ fn property_pattern_replaces_and_adds(rt: HostRuntime) -> Result<(), Fail> {
             "x[a=1,q=1]",
             "minecraft:x[a=0,b=0,c=0,d=0,e=0,f=0,g=0,h=0,i=0,j=0,k=0,l=0,m=0,n=0,o=0,p=0]",
         ),
+        (
+            "oak_stairs[facing=east]",
+            "x[half=top,facing=north]",
+            "minecraft:oak_stairs[facing=north,half=top]",
+        ),
     ] {
-        let state = state_of(alloc, properties)?;
-        let value = Value::Put(state.properties().copy(alloc)?);
-        let found = after(alloc, old, &value)?;
-        assert_eq!(rt; found.as_slice(), form.as_bytes(), "{old} {properties}");
+        assert_after(&rt, alloc, old, &put(alloc, properties)?, form)?;
     }
     Ok(())
 }
 
 #[test]
-fn property_and_rename_patterns(rt: HostRuntime) -> Result<(), Fail> {
+fn rename_pattern_keeps_properties(rt: HostRuntime) -> Result<(), Fail> {
     let alloc = rt.alloc();
     let name = Name::from_vec(Vec::from_slice(alloc, b"minecraft:oak_stairs")?);
-    let rename = Value::Rename(BlockName::from_name(name).ok_or("a block's name")?);
-    let state = state_of(alloc, "birch_stairs[half=top,facing=north]")?;
-    let put = Value::Put(state.properties().copy(alloc)?);
-    for (old, value, form) in [
-        (
-            "birch_stairs[facing=east]",
-            &rename,
-            "minecraft:oak_stairs[facing=east]",
-        ),
-        (
-            "oak_stairs[facing=east]",
-            &rename,
-            "minecraft:oak_stairs[facing=east]",
-        ),
-        (
-            "oak_stairs[facing=east]",
-            &put,
-            "minecraft:oak_stairs[facing=north,half=top]",
-        ),
+    let value = Value::Rename(BlockName::from_name(name).ok_or("a block's name")?);
+    for old in ["birch_stairs[facing=east]", "oak_stairs[facing=east]"] {
+        assert_after(&rt, alloc, old, &value, "minecraft:oak_stairs[facing=east]")?;
+    }
+    Ok(())
+}
+
+const BIRCH: &str = "birch_stairs[half=top,facing=north]";
+
+#[test]
+fn rename_pattern_puts_properties(rt: HostRuntime) -> Result<(), Fail> {
+    let alloc = rt.alloc();
+    let value = Value::RenamePut(state_of(alloc, BIRCH)?);
+    for (old, form) in [
         (
             "oak_stairs[facing=east,shape=straight]",
-            &Value::RenamePut(state.copy(alloc)?),
             "minecraft:birch_stairs[facing=north,half=top,shape=straight]",
         ),
         (
             SIXTEEN,
-            &Value::RenamePut(state.copy(alloc)?),
             "minecraft:x[a=0,b=0,c=0,d=0,e=0,f=0,g=0,h=0,i=0,j=0,k=0,l=0,m=0,n=0,o=0,p=0]",
         ),
-        (
-            "oak_stairs[facing=east,shape=straight]",
-            &Value::Fixed(state.copy(alloc)?),
-            "minecraft:birch_stairs[facing=north,half=top]",
-        ),
     ] {
-        let found = after(alloc, old, value)?;
-        assert_eq!(rt; found.as_slice(), form.as_bytes(), "{old} {form}");
+        assert_after(&rt, alloc, old, &value, form)?;
     }
     Ok(())
 }
 
 #[test]
-fn faults_are_printed(rt: HostRuntime) -> Result<(), Fail> {
+fn fixed_pattern_replaces_all(rt: HostRuntime) -> Result<(), Fail> {
     let alloc = rt.alloc();
-    let fault = StateFault::BadName;
+    let value = Value::Fixed(state_of(alloc, BIRCH)?);
+    let old = "oak_stairs[facing=east,shape=straight]";
+    let form = "minecraft:birch_stairs[facing=north,half=top]";
+    assert_after(&rt, alloc, old, &value, form)
+}
+
+/// Looks how a fault is printed.
+fn assert_printed(
+    rt: &impl Abort,
+    alloc: Global,
+    fault: TermFault,
+    text: &str,
+) -> Result<(), Fail> {
+    let found = format!(in alloc; "{fault}")?;
+    assert_eq!(rt; found.as_str(), text);
+    Ok(())
+}
+
+#[test]
+fn faults_of_states_are_printed(rt: HostRuntime) -> Result<(), Fail> {
+    for (fault, text) in [
+        (StateFault::BadName, "term at 2: bad name"),
+        (StateFault::BadProperty, "term at 2: bad property"),
+        (StateFault::RepeatedKey, "term at 2: repeated key"),
+        (
+            StateFault::TooManyProperties,
+            "term at 2: too many properties",
+        ),
+    ] {
+        assert_printed(&rt, rt.alloc(), TermFault::State { at: 2, fault }, text)?;
+    }
+    Ok(())
+}
+
+#[test]
+fn faults_of_terms_are_printed(rt: HostRuntime) -> Result<(), Fail> {
     for (fault, text) in [
         (TermFault::Empty { at: 6 }, "term at 6: empty"),
         (TermFault::Unknown { at: 0 }, "term at 0: unknown"),
-        (TermFault::State { at: 2, fault }, "term at 2: bad name"),
-        (
-            TermFault::State {
-                at: 2,
-                fault: StateFault::BadProperty,
-            },
-            "term at 2: bad property",
-        ),
-        (
-            TermFault::State {
-                at: 2,
-                fault: StateFault::RepeatedKey,
-            },
-            "term at 2: repeated key",
-        ),
-        (
-            TermFault::State {
-                at: 2,
-                fault: StateFault::TooManyProperties,
-            },
-            "term at 2: too many properties",
-        ),
         (TermFault::Number { at: 0 }, "term at 0: number"),
         (TermFault::Weight { at: 0 }, "term at 0: weight"),
         (
@@ -444,8 +534,7 @@ fn faults_are_printed(rt: HostRuntime) -> Result<(), Fail> {
         ),
         (TermFault::Memory, "memory"),
     ] {
-        let found = format!(in alloc; "{fault}")?;
-        assert_eq!(rt; found.as_str(), text);
+        assert_printed(&rt, rt.alloc(), fault, text)?;
     }
     Ok(())
 }

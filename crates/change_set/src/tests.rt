@@ -4,18 +4,22 @@ use edit_terms::{
     BlockName, BlockState, CellList, Content, Entity, Name, Pos, Properties, Source, WorldBox,
 };
 use std::alloc::Global;
+use std::process::Abort;
 use std::sync::Arc;
 use std::test::Fail;
 
-/// The content of that name.
-fn block(alloc: Global, name: &str) -> Result<Content, Fail> {
+fn state(alloc: Global, name: &str) -> Result<BlockState, Fail> {
     let name = Name::from_vec(Vec::from_slice(alloc, name.as_bytes())?);
     let name = BlockName::from_name(name).ok_or("a block name")?;
     let properties = Properties::from_pairs(Vec::new(alloc)).ok_or("no properties")?;
-    Ok(Content {
-        state: BlockState::new(name, properties).share(alloc)?,
-        entity: None,
-    })
+    Ok(BlockState::new(name, properties).share(alloc)?)
+}
+
+/// The content of that name, without an entity.
+fn block(alloc: Global, name: &str) -> Result<Content, Fail> {
+    let state = state(alloc, name)?;
+    let entity = None;
+    Ok(Content { state, entity })
 }
 
 fn pos(x: i32, y: i32, z: i32) -> Pos {
@@ -161,12 +165,16 @@ fn read<L: CellList>(list: &L, i: u32, state: &BlockState) -> Option<(Pos, bool,
     Some((list.at(i), same, list.entity(i).is_some(), list.reach(i)))
 }
 
+fn entity(alloc: Global) -> Result<Arc<Entity>, Fail> {
+    let before = Vec::from_slice(alloc, b"before")?;
+    Ok(Arc::new(alloc, Entity::new(before, Vec::new(alloc)))?)
+}
+
 /// A chest with an entity.
 fn chest(alloc: Global) -> Result<Content, Fail> {
-    let mut chest = block(alloc, "minecraft:chest")?;
-    let entity = Entity::new(Vec::from_slice(alloc, b"before")?, Vec::new(alloc));
-    chest.entity = Some(Arc::new(alloc, entity)?);
-    Ok(chest)
+    let state = state(alloc, "minecraft:chest")?;
+    let entity = Some(entity(alloc)?);
+    Ok(Content { state, entity })
 }
 
 /// The changes of two blocks of a row from air to chests.
@@ -226,29 +234,39 @@ fn changes_are_kept_by_command(rt: HostRuntime) -> Result<(), Fail> {
     Ok(())
 }
 
-/// A part of cells of stone at these positions.
-fn part(alloc: Global, positions: &[(i32, i32, i32)]) -> Result<Part, Fail> {
+/// Cells of stone at these positions.
+fn cells(alloc: Global, positions: &[(i32, i32, i32)]) -> Result<Vec<(Pos, Content)>, Fail> {
     let mut cells = Vec::new(alloc);
     for at in positions {
-        cells.push((pos(at.0, at.1, at.2), block(alloc, "minecraft:stone")?))?;
+        let stone = block(alloc, "minecraft:stone")?;
+        cells.push((pos(at.0, at.1, at.2), stone))?;
     }
-    let source = Source { player: 3, step: 1 };
-    if cells.as_slice().len() >= 100 {
+    Ok(cells)
+}
+
+/// A part of cells of stone at these positions.
+fn part(alloc: Global, positions: &[(i32, i32, i32)]) -> Result<Part, Fail> {
+    let cells = cells(alloc, positions)?;
+    if cells.len() >= 100 {
         return Err("many cells".into());
     }
+    let source = Source { player: 3, step: 1 };
     Ok(Part::from_cells(source, 5, cells))
+}
+
+/// The part has a cell of that state at a place of its list, and finds it.
+fn assert_found(rt: &impl Abort, part: &Part, i: u32, at: Pos, state: &BlockState) {
+    assert_eq!(rt; part.find(&at), Some(i));
+    assert_eq!(rt; read(part, i, state), Some((at, true, false, 1)));
 }
 
 #[test]
 fn cells_are_sorted_and_found(rt: HostRuntime) -> Result<(), Fail> {
-    let alloc = rt.alloc();
-    let stone = block(alloc, "minecraft:stone")?;
-    let part = part(
-        alloc,
-        &[(1, 2, 0), (0, 0, 5), (-3, 2, 0), (4, -1, 9), (1, 0, -5)],
-    )?;
+    let positions = [(1, 2, 0), (0, 0, 5), (-3, 2, 0), (4, -1, 9), (1, 0, -5)];
+    let part = part(rt.alloc(), &positions)?;
     assert_eq!(rt; part.source(), Source { player: 3, step: 1 });
     assert_eq!(rt; part.chunk(), 5);
+    let stone = state(rt.alloc(), "minecraft:stone")?;
     for (i, at) in [
         (0, pos(4, -1, 9)),
         (1, pos(1, 0, -5)),
@@ -256,11 +274,10 @@ fn cells_are_sorted_and_found(rt: HostRuntime) -> Result<(), Fail> {
         (3, pos(-3, 2, 0)),
         (4, pos(1, 2, 0)),
     ] {
-        assert_eq!(rt; part.find(&at), Some(i));
-        assert_eq!(rt; read(&part, i, &stone.state), Some((at, true, false, 1)));
+        assert_found(&rt, &part, i, at, &stone);
     }
     assert_eq!(rt; part.find(&pos(0, 2, 0)), None);
-    assert_eq!(rt; read(&part, 5, &stone.state), None);
+    assert_eq!(rt; read(&part, 5, &stone), None);
     Ok(())
 }
 
@@ -320,6 +337,23 @@ fn equal_cells_are_one_run(rt: HostRuntime) -> Result<(), Fail> {
     Ok(())
 }
 
+/// Both forms have the cell at a place of their lists, and find it; those by runs reach so far.
+fn assert_agree(
+    rt: &impl Abort,
+    forms: &(Part, Part),
+    i: u32,
+    cell: (Pos, bool, u32),
+    chest: &BlockState,
+) {
+    let (at, is_chest, reach) = cell;
+    let (runs, sorted) = forms;
+    let there = (at, is_chest, is_chest, reach);
+    assert_eq!(rt; read(runs, i, chest), Some(there));
+    let there = (at, is_chest, is_chest, 1);
+    assert_eq!(rt; read(sorted, i, chest), Some(there));
+    assert_eq!(rt; (runs.find(&at), sorted.find(&at)), (Some(i), Some(i)));
+}
+
 #[test]
 fn both_forms_of_a_part_agree(rt: HostRuntime) -> Result<(), Fail> {
     let cells = [
@@ -329,22 +363,17 @@ fn both_forms_of_a_part_agree(rt: HostRuntime) -> Result<(), Fail> {
         Cell::Chest,
         Cell::Stone,
     ];
-    let (runs, sorted) = forms(rt.alloc(), pos(3, 0, 3), (1, 5, 1), &cells)?;
-    let chest = chest(rt.alloc())?;
+    let forms = forms(rt.alloc(), pos(3, 0, 3), (1, 5, 1), &cells)?;
+    let chest = state(rt.alloc(), "minecraft:chest")?;
     for (i, y, is_chest, reach) in [
         (0, 0, true, 2),
         (1, 1, true, 1),
         (2, 3, true, 1),
         (3, 4, false, 1),
     ] {
-        let at = pos(3, y, 3);
-        let there = (at, is_chest, is_chest, reach);
-        assert_eq!(rt; read(&runs, i, &chest.state), Some(there));
-        let there = (at, is_chest, is_chest, 1);
-        assert_eq!(rt; read(&sorted, i, &chest.state), Some(there));
-        assert_eq!(rt; (runs.find(&at), sorted.find(&at)), (Some(i), Some(i)));
+        assert_agree(&rt, &forms, i, (pos(3, y, 3), is_chest, reach), &chest);
     }
     let out = pos(3, 2, 3);
-    assert_eq!(rt; (runs.find(&out), sorted.find(&out)), (None, None));
+    assert_eq!(rt; (forms.0.find(&out), forms.1.find(&out)), (None, None));
     Ok(())
 }

@@ -54,10 +54,9 @@ fn set(alloc: Global) -> Result<Command, Fail> {
 }
 
 fn put(alloc: Global, place: [i32; 3]) -> Result<Command, Fail> {
-    Ok(Command::Block {
-        at: at(place),
-        state: stone(alloc)?,
-    })
+    let at = at(place);
+    let state = stone(alloc)?;
+    Ok(Command::Block { at, state })
 }
 
 fn command_of(alloc: Global, act: Act) -> Result<Command, Fail> {
@@ -76,31 +75,41 @@ fn command_of(alloc: Global, act: Act) -> Result<Command, Fail> {
     }
 }
 
-fn script_of(alloc: Global, acts: &[Act]) -> Result<Script, Fail> {
+fn lines_of(alloc: Global, acts: &[Act]) -> Result<Vec<Line>, Fail> {
     let mut lines = Vec::new(alloc);
     for act in acts {
         let command = command_of(alloc, *act)?;
         lines.push(Line { number: 1, command })?;
     }
-    Ok(Script {
-        player: Name::from_vec(Vec::from_slice(alloc, b"anna")?),
-        lines: Items::from_vec(lines),
-    })
+    Ok(lines)
+}
+
+fn script_of(alloc: Global, acts: &[Act]) -> Result<Script, Fail> {
+    let player = Name::from_vec(Vec::from_slice(alloc, b"anna")?);
+    let lines = Items::from_vec(lines_of(alloc, acts)?);
+    Ok(Script { player, lines })
 }
 
 fn grid_of(alloc: Global, ground: Ground) -> Result<Grid, Fail> {
     let [width, height, length] = ground.sizes;
     let area = WorldBox::new(at(ground.least), width, height, length).ok_or("a box")?;
-    let kinds = vec![in alloc; stone(alloc)?]?;
+    let stone = stone(alloc)?;
+    let kinds = vec![in alloc; stone]?;
     let cells = vec![in alloc; 0; area.volume() as usize]?;
     Ok(Grid::from_parts(alloc, area, kinds, cells).ok_or("a world")?)
 }
 
+fn scripts_of(alloc: Global, acts: &[Act]) -> Result<Items<Script>, Fail> {
+    let script = script_of(alloc, acts)?;
+    Ok(Items::from_vec(vec![in alloc; script]?))
+}
+
 fn case_of(alloc: Global, ground: Ground, acts: &[Act]) -> Result<Case, Fail> {
-    let scripts = vec![in alloc; script_of(alloc, acts)?]?;
+    let opening = grid_of(alloc, ground)?;
+    let scripts = scripts_of(alloc, acts)?;
     Ok(Case {
-        opening: grid_of(alloc, ground)?,
-        scripts: Items::from_vec(scripts),
+        opening,
+        scripts,
         seed: 7,
         depth: 15,
     })

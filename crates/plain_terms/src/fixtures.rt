@@ -20,22 +20,24 @@ pub(crate) struct Fixture {
 
 impl Fixture {
     pub(crate) fn new(alloc: Global) -> Result<Fixture, Fail> {
-        let least = at(0, 0, 0);
-        let mut kinds = Vec::new(alloc);
-        kinds.push(content(alloc, "minecraft:stone", &[])?)?;
-        kinds.push(chest(alloc)?)?;
-        kinds.push(content(alloc, "minecraft:air", &[])?)?;
-        kinds.push(content(alloc, "minecraft:oak_stairs", &[("half", "top")])?)?;
-        Ok(Fixture {
-            area: WorldBox::new(least, 2, 2, 1).ok_or("a box")?,
-            kinds: palette_of(alloc, kinds)?,
-            cells: Vec::from_slice(alloc, &[0, 1, 2, 3])?,
-        })
+        let kinds = palette_of(alloc, contents(alloc)?)?;
+        let cells = Vec::from_slice(alloc, &[0, 1, 2, 3])?;
+        let area = WorldBox::new(at(0, 0, 0), 2, 2, 1).ok_or("a box")?;
+        Ok(Fixture { area, kinds, cells })
     }
 
     pub(crate) fn blocks(&self) -> Result<Blocks<'_>, Fail> {
         Ok(blocks_of(&self.area, &self.kinds, &self.cells).ok_or("a numbered world")?)
     }
+}
+
+fn contents(alloc: Global) -> Result<Vec<Content>, Fail> {
+    let mut kinds = Vec::new(alloc);
+    kinds.push(content(alloc, "minecraft:stone", &[])?)?;
+    kinds.push(chest(alloc)?)?;
+    kinds.push(content(alloc, "minecraft:air", &[])?)?;
+    kinds.push(content(alloc, "minecraft:oak_stairs", &[("half", "top")])?)?;
+    Ok(kinds)
 }
 
 fn palette_of(alloc: Global, contents: Vec<Content>) -> Result<Palette<Content>, Fail> {
@@ -93,26 +95,28 @@ pub(crate) fn state(
     named: &str,
     pairs: &[(&str, &str)],
 ) -> Result<BlockState, Fail> {
-    Ok(BlockState::new(name(alloc, named)?, properties(alloc, pairs)?))
+    let name = name(alloc, named)?;
+    let properties = properties(alloc, pairs)?;
+    Ok(BlockState::new(name, properties))
 }
 
 pub(crate) fn content(alloc: Global, named: &str, pairs: &[(&str, &str)]) -> Result<Content, Fail> {
-    Ok(Content {
-        state: state(alloc, named, pairs)?,
-        entity: None,
-    })
+    let state = state(alloc, named, pairs)?;
+    let entity = None;
+    Ok(Content { state, entity })
+}
+
+fn entity(alloc: Global) -> Result<Arc<Entity>, Fail> {
+    let before = Vec::from_slice(alloc, b"id")?;
+    let after = Vec::from_slice(alloc, b"Items")?;
+    Ok(Arc::new(alloc, Entity::new(before, after))?)
 }
 
 /// A chest that faces north, with an entity.
 pub(crate) fn chest(alloc: Global) -> Result<Content, Fail> {
-    let entity = Entity::new(
-        Vec::from_slice(alloc, b"id")?,
-        Vec::from_slice(alloc, b"Items")?,
-    );
-    Ok(Content {
-        state: state(alloc, "minecraft:chest", &[("facing", "north")])?,
-        entity: Some(Arc::new(alloc, entity)?),
-    })
+    let state = state(alloc, "minecraft:chest", &[("facing", "north")])?;
+    let entity = Some(entity(alloc)?);
+    Ok(Content { state, entity })
 }
 
 fn word(alloc: Global, bytes: &str) -> Result<Name, Fail> {

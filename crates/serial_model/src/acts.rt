@@ -74,21 +74,23 @@ fn value_of(alloc: Global, paint: Paint) -> Result<Value, Fail> {
     }
 }
 
-fn pattern_of(alloc: Global, paint: Paint) -> Result<Pattern, Fail> {
+fn half(alloc: Global, paint: Paint) -> Result<Entry, Fail> {
+    let value = value_of(alloc, paint)?;
+    Ok(Entry { weight: 50, value })
+}
+
+fn entries_of(alloc: Global, paint: Paint) -> Result<Vec<Entry>, Fail> {
     let mut entries = Vec::new(alloc);
-    entries.push(Entry {
-        weight: 50,
-        value: value_of(alloc, paint)?,
-    })?;
+    entries.push(half(alloc, paint)?)?;
     if let Paint::Either(_, other) = paint {
-        entries.push(Entry {
-            weight: 50,
-            value: Value::Fixed(state_of(alloc, other)?),
-        })?;
+        entries.push(half(alloc, Paint::Of(other))?)?;
     }
-    Ok(Pattern {
-        entries: Items::from_vec(entries),
-    })
+    Ok(entries)
+}
+
+fn pattern_of(alloc: Global, paint: Paint) -> Result<Pattern, Fail> {
+    let entries = Items::from_vec(entries_of(alloc, paint)?);
+    Ok(Pattern { entries })
 }
 
 fn like(alloc: Global, block: Block) -> Result<Leaf, Fail> {
@@ -105,13 +107,17 @@ fn leaf_of(alloc: Global, look: Look) -> Result<Leaf, Fail> {
     }
 }
 
-fn mask_of(alloc: Global, look: Look) -> Result<Mask, Fail> {
+fn signs_of(alloc: Global, look: Look) -> Result<Items<Sign>, Fail> {
     let mut signs = Vec::new(alloc);
     if let Look::On(_) = look {
         signs.push(Sign::Below)?;
     }
+    Ok(Items::from_vec(signs))
+}
+
+fn mask_of(alloc: Global, look: Look) -> Result<Mask, Fail> {
+    let signs = signs_of(alloc, look)?;
     let leaf = leaf_of(alloc, look)?;
-    let signs = Items::from_vec(signs);
     let terms = Items::from_vec(vec![in alloc; Term { signs, leaf }]?);
     Ok(Mask { terms })
 }
@@ -128,27 +134,36 @@ fn filling(alloc: Global, act: Act) -> Result<Command, Fail> {
         Act::Faces(paint) => Ok(Command::Faces {
             pattern: pattern_of(alloc, paint)?,
         }),
-        Act::Replace(look, paint) => Ok(Command::Replace {
-            mask: mask_of(alloc, look)?,
-            pattern: pattern_of(alloc, paint)?,
-        }),
+        Act::Replace(look, paint) => replace(alloc, look, paint),
         Act::Ball(paint, radius) => ball(alloc, paint, radius, false),
         Act::HollowBall(paint, radius) => ball(alloc, paint, radius, true),
-        Act::Tube(paint, radius, height) => Ok(Command::Cyl {
-            pattern: pattern_of(alloc, paint)?,
-            radius,
-            height,
-            hollow: false,
-        }),
+        Act::Tube(paint, radius, height) => tube(alloc, paint, radius, height),
         _ => Err(Fail::new("a command that fills")),
     }
 }
 
+fn replace(alloc: Global, look: Look, paint: Paint) -> Result<Command, Fail> {
+    let mask = mask_of(alloc, look)?;
+    let pattern = pattern_of(alloc, paint)?;
+    Ok(Command::Replace { mask, pattern })
+}
+
 fn ball(alloc: Global, paint: Paint, radius: u32, hollow: bool) -> Result<Command, Fail> {
+    let pattern = pattern_of(alloc, paint)?;
     Ok(Command::Sphere {
-        pattern: pattern_of(alloc, paint)?,
+        pattern,
         radius,
         hollow,
+    })
+}
+
+fn tube(alloc: Global, paint: Paint, radius: u32, height: u32) -> Result<Command, Fail> {
+    let pattern = pattern_of(alloc, paint)?;
+    Ok(Command::Cyl {
+        pattern,
+        radius,
+        height,
+        hollow: false,
     })
 }
 
@@ -181,14 +196,17 @@ fn command_of(alloc: Global, act: Act) -> Result<Command, Fail> {
 
 /// The script of a player. Its commands stand from line 2 on.
 pub(crate) fn script_of(alloc: Global, player: &str, acts: &[Act]) -> Result<Script, Fail> {
+    let player = word_of(alloc, player)?;
+    let lines = Items::from_vec(lines_of(alloc, acts)?);
+    Ok(Script { player, lines })
+}
+
+fn lines_of(alloc: Global, acts: &[Act]) -> Result<Vec<Line>, Fail> {
     let mut lines = Vec::new(alloc);
     for act in acts {
         let number = u32::try_from(lines.len())?.saturating_add(2);
         let command = command_of(alloc, *act)?;
         lines.push(Line { number, command })?;
     }
-    Ok(Script {
-        player: word_of(alloc, player)?,
-        lines: Items::from_vec(lines),
-    })
+    Ok(lines)
 }

@@ -4,7 +4,7 @@ use crate::acts::{Act, script_of};
 use crate::ground::Ground;
 use crate::limits::is_within;
 use crate::{PlainError, plain_run};
-use edit_terms::{Case, Entity, Grid, Items, Outcome, Pos, Reply};
+use edit_terms::{Case, Entity, Grid, Items, Outcome, Pos, Reply, Script};
 use std::alloc::Global;
 use std::process::Abort;
 use std::test::Fail;
@@ -27,19 +27,27 @@ pub(crate) struct Setting<'g, 'a> {
 }
 
 impl Setting<'_, '_> {
-    fn case(&self, alloc: Global) -> Result<Case, Fail> {
+    fn scripts(&self, alloc: Global) -> Result<Vec<Script>, Fail> {
         let mut scripts = Vec::new(alloc);
         for (name, acts) in ["anna", "bob", "carl", "dora"]
             .into_iter()
             .zip(self.scripts)
         {
-            scripts.push(script_of(alloc, name, acts)?)?;
+            let script = script_of(alloc, name, acts)?;
+            scripts.push(script)?;
         }
+        Ok(scripts)
+    }
+
+    fn case(&self, alloc: Global) -> Result<Case, Fail> {
+        let opening = self.before.grid(alloc)?;
+        let scripts = Items::from_vec(self.scripts(alloc)?);
+        let depth = self.depth;
         Ok(Case {
-            opening: self.before.grid(alloc)?,
-            scripts: Items::from_vec(scripts),
+            opening,
+            scripts,
             seed: 0,
-            depth: self.depth,
+            depth,
         })
     }
 
@@ -68,12 +76,23 @@ impl Setting<'_, '_> {
         replies: &[Reply],
         after: Ground,
     ) -> Result<(), Fail> {
+        let wanted = after.grid(alloc)?;
         let outcome = self.ran(alloc, order)?;
-        assert_eq!(rt; outcome.order.as_slice(), order);
-        assert_eq!(rt; outcome.replies.as_slice(), replies);
-        assert_same_world(rt, &outcome.world, &after.grid(alloc)?);
+        assert_outcome(rt, &outcome, order, replies, &wanted);
         Ok(())
     }
+}
+
+fn assert_outcome(
+    rt: &impl Abort,
+    outcome: &Outcome,
+    order: &[u32],
+    replies: &[Reply],
+    wanted: &Grid,
+) {
+    assert_eq!(rt; outcome.order.as_slice(), order);
+    assert_eq!(rt; outcome.replies.as_slice(), replies);
+    assert_same_world(rt, &outcome.world, wanted);
 }
 
 /// A player who selects from one position to another in a world.
@@ -109,27 +128,33 @@ impl Selected<'_> {
         replies: &[Reply],
         after: Ground,
     ) -> Result<(), Fail> {
-        let mut all = Vec::from_slice(alloc, &[Act::First(self.first), Act::Second(self.second)])?;
-        all.extend_from_slice(acts)?;
-        let mut wanted = Vec::from_slice(alloc, &[Reply::Accepted, Reply::Accepted])?;
-        wanted.extend_from_slice(replies)?;
+        let all = behind(
+            alloc,
+            &[Act::First(self.first), Act::Second(self.second)],
+            acts,
+        )?;
+        let wanted = behind(alloc, &[Reply::Accepted, Reply::Accepted], replies)?;
+        let order = zeros(alloc, all.len())?;
         let before = self.before;
         let setting = Setting {
             before,
             scripts: &[all.as_slice()],
             depth: self.depth,
         };
-        setting.ends(rt, alloc, &zeros(alloc, all.len())?, &wanted, after)
+        setting.ends(rt, alloc, &order, &wanted, after)
     }
+}
+
+/// A list and what comes behind it.
+fn behind<T: Copy>(alloc: Global, first: &[T], more: &[T]) -> Result<Vec<T>, Fail> {
+    let mut all = Vec::from_slice(alloc, first)?;
+    all.extend_from_slice(more)?;
+    Ok(all)
 }
 
 /// The order of so many commands of one player.
 pub(crate) fn zeros(alloc: Global, count: usize) -> Result<Vec<u32>, Fail> {
-    let mut order = Vec::new(alloc);
-    for _ in 0..count {
-        order.push(0)?;
-    }
-    Ok(order)
+    Ok(vec![in alloc; 0; count]?)
 }
 
 /// Two worlds are of one box, and have the same at each of its positions.

@@ -46,7 +46,9 @@ pub(crate) fn name_of(alloc: Global, name: &str) -> Result<BlockName, Fail> {
 pub(crate) fn properties_of(alloc: Global, pairs: &[(&str, &str)]) -> Result<Properties, Fail> {
     let mut made = Vec::new(alloc);
     for pair in pairs {
-        made.push((word_of(alloc, pair.0)?, word_of(alloc, pair.1)?))?;
+        let key = word_of(alloc, pair.0)?;
+        let value = word_of(alloc, pair.1)?;
+        made.push((key, value))?;
     }
     Ok(Properties::from_pairs(made).ok_or("properties")?)
 }
@@ -57,7 +59,13 @@ pub(crate) fn word_of(alloc: Global, word: &str) -> Result<Name, Fail> {
 
 pub(crate) fn state_of(alloc: Global, block: Block) -> Result<BlockState, Fail> {
     let name = name_of(alloc, block.name)?;
-    Ok(BlockState::new(name, properties_of(alloc, block.pairs)?))
+    let properties = properties_of(alloc, block.pairs)?;
+    Ok(BlockState::new(name, properties))
+}
+
+fn entity_of(alloc: Global, tags: &[u8]) -> Result<Arc<Entity>, Fail> {
+    let before = Vec::from_slice(alloc, tags)?;
+    Ok(Arc::new(alloc, Entity::new(before, Vec::new(alloc)))?)
 }
 
 /// The states and the blocks' numbers of a world that is being made.
@@ -71,7 +79,8 @@ impl Making {
     /// Puts so many blocks of one state on top.
     fn add(&mut self, alloc: Global, count: u32, block: Block) -> Result<(), Fail> {
         let number = u32::try_from(self.kinds.len())?;
-        self.kinds.push(state_of(alloc, block)?)?;
+        let state = state_of(alloc, block)?;
+        self.kinds.push(state)?;
         for _ in 0..count {
             self.cells.push(number)?;
         }
@@ -130,13 +139,19 @@ impl Ground<'_> {
         let [width, height, length] = self.sizes;
         let sizes = (u32::from(width), u32::from(height), u32::from(length));
         let area = WorldBox::new(at(self.least), sizes.0, sizes.1, sizes.2).ok_or("a box")?;
+        let entities = self.entities(alloc)?;
+        let making = self.made(alloc, &area)?;
+        let bare = Grid::from_parts(alloc, area, making.kinds, making.cells).ok_or("a grid")?;
+        Ok(bare.with_entities(entities).ok_or("entities")?)
+    }
+
+    fn made(&self, alloc: Global, area: &WorldBox) -> Result<Making, Fail> {
         let mut making = self.layered(alloc)?;
         for other in self.others {
             let index = area.index_of(at(other.0)).ok_or("a block of the box")?;
             making.put(alloc, index, other.1)?;
         }
-        let bare = Grid::from_parts(alloc, area, making.kinds, making.cells).ok_or("a grid")?;
-        Ok(bare.with_entities(self.entities(alloc)?).ok_or("entities")?)
+        Ok(making)
     }
 
     fn layered(&self, alloc: Global) -> Result<Making, Fail> {
@@ -154,8 +169,8 @@ impl Ground<'_> {
     fn entities(&self, alloc: Global) -> Result<Entities, Fail> {
         let mut entities = Vec::new(alloc);
         for (place, tags) in self.entities {
-            let entity = Entity::new(Vec::from_slice(alloc, tags)?, Vec::new(alloc));
-            entities.push((at(*place), Arc::new(alloc, entity)?))?;
+            let entity = entity_of(alloc, tags)?;
+            entities.push((at(*place), entity))?;
         }
         Ok(Items::from_vec(entities))
     }

@@ -105,8 +105,17 @@ fn assert_stands(
     place: [i32; 3],
     block: Block,
 ) -> Result<(), Fail> {
+    let wanted = state_of(alloc, block)?;
     let state = world.get(at(place)).ok_or("a block of the box")?;
-    assert!(rt; *state == state_of(alloc, block)?, "{place:?}");
+    assert!(rt; *state == wanted, "{place:?}");
+    Ok(())
+}
+
+fn assert_any_order(rt: &impl Abort, alloc: Global, world: &Grid) -> Result<(), Fail> {
+    let second = player_by_player(rt, alloc)?;
+    assert_same_world(rt, &second.world, world);
+    let third = last_player_first(rt, alloc)?;
+    assert_same_world(rt, &third.world, world);
     Ok(())
 }
 
@@ -114,10 +123,7 @@ fn assert_stands(
 fn four_players_any_order_same_world(rt: HostRuntime) -> Result<(), Fail> {
     let alloc = rt.alloc();
     let first = in_rounds(&rt, alloc)?;
-    let second = player_by_player(&rt, alloc)?;
-    let third = last_player_first(&rt, alloc)?;
-    assert_same_world(&rt, &second.world, &first.world);
-    assert_same_world(&rt, &third.world, &first.world);
+    assert_any_order(&rt, alloc, &first.world)?;
     for stands in [
         ([-20, 70, -15], plain("oak_planks")),
         ([-15, 70, -15], plain("air")),

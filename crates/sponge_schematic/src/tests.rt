@@ -193,36 +193,49 @@ fn block_data_faults(rt: HostRuntime) -> Result<(), Fail> {
     Ok(())
 }
 
+/// Looks whether the file is refused with that fault.
+fn assert_fault(
+    rt: &impl Abort,
+    alloc: Global,
+    bytes: &[u8],
+    fault: WorldFault,
+) -> Result<(), Fail> {
+    assert_eq!(rt; read(rt, alloc, bytes).err(), Some(fault), "{fault}");
+    Ok(())
+}
+
+/// The same of the file of one block with the bytes from `at` to `end` exchanged for others.
+fn assert_edited(
+    rt: &impl Abort,
+    alloc: Global,
+    at: usize,
+    end: usize,
+    other: &[u8],
+    fault: WorldFault,
+) -> Result<(), Fail> {
+    let bytes = edited(alloc, at, end, other)?;
+    assert_fault(rt, alloc, &bytes, fault)
+}
+
 #[test]
-fn schematic_and_nbt_faults(rt: HostRuntime) -> Result<(), Fail> {
+fn schematic_faults(rt: HostRuntime) -> Result<(), Fail> {
     let alloc = rt.alloc();
+    let missing = WorldFault::Missing(Field::DataVersion);
+    assert_edited(&rt, alloc, 0, 168, b"\x1F\x8B", WorldFault::Compressed)?;
+    assert_edited(&rt, alloc, 25, 26, b"\x03", WorldFault::Version(3))?;
+    assert_edited(&rt, alloc, 26, 44, b"", missing)
+}
+
+#[test]
+fn nbt_faults(rt: HostRuntime) -> Result<(), Fail> {
     let version = part(one_dirt(), 12, 26)?;
-    let cases: [(Vec<u8>, WorldFault); 7] = [
-        (edited(alloc, 0, 168, b"\x1F\x8B")?, WorldFault::Compressed),
-        (edited(alloc, 25, 26, b"\x03")?, WorldFault::Version(3)),
-        (
-            edited(alloc, 26, 44, b"")?,
-            WorldFault::Missing(Field::DataVersion),
-        ),
-        (
-            edited(alloc, 26, 26, version)?,
-            WorldFault::Nbt(NbtFault::Duplicate { at: 26 }),
-        ),
-        (
-            edited(alloc, 100, 168, b"")?,
-            WorldFault::Nbt(NbtFault::Short { at: 89 }),
-        ),
-        (
-            edited(alloc, 168, 168, b"\0")?,
-            WorldFault::Nbt(NbtFault::Trailing { at: 168 }),
-        ),
-        (
-            edited(alloc, 0, 168, b"")?,
-            WorldFault::Nbt(NbtFault::Short { at: 0 }),
-        ),
-    ];
-    for (bytes, fault) in cases.iter() {
-        assert_eq!(rt; read(&rt, alloc, bytes).err(), Some(*fault), "{fault}");
+    for (at, end, other, fault) in [
+        (26, 26, version, NbtFault::Duplicate { at: 26 }),
+        (100, 168, b"".as_slice(), NbtFault::Short { at: 89 }),
+        (168, 168, b"\0".as_slice(), NbtFault::Trailing { at: 168 }),
+        (0, 168, b"".as_slice(), NbtFault::Short { at: 0 }),
+    ] {
+        assert_edited(&rt, rt.alloc(), at, end, other, WorldFault::Nbt(fault))?;
     }
     Ok(())
 }
@@ -252,8 +265,7 @@ fn assert_refused(
     fault: WorldFault,
 ) -> Result<(), Fail> {
     let bytes = file_of(alloc, tags)?;
-    assert_eq!(rt; read(rt, alloc, &bytes).err(), Some(fault), "{fault}");
-    Ok(())
+    assert_fault(rt, alloc, &bytes, fault)
 }
 
 /// Where a check of the versions or the sizes fails, all later ones would fail too.
@@ -439,7 +451,7 @@ fn roots_that_are_no_schematic(rt: HostRuntime) -> Result<(), Fail> {
         (b"\x1F", WorldFault::Nbt(NbtFault::BadType { at: 0 })),
     ];
     for (bytes, fault) in cases {
-        assert_eq!(rt; read(&rt, alloc, bytes).err(), Some(fault), "{bytes:?}");
+        assert_fault(&rt, alloc, bytes, fault)?;
     }
     Ok(())
 }
@@ -470,15 +482,25 @@ const LIST: &[u8] = b"\x09\0\x0DBlockEntities\x0A\0\0\0";
 
 const OTHERS: &[u8] = b"\x0A\0\x08Metadata\x01\0\x01b\x01\x01\0\x01a\x02\0\x0B\0\x01z\0\0\0\0";
 
+/// Two blocks of stone with these further tags are read, and written with those.
+fn assert_written(
+    rt: &impl Abort,
+    alloc: Global,
+    further: &[&[u8]],
+    wanted: &[&[u8]],
+) -> Result<(), Fail> {
+    let bytes = two_blocks(alloc, STONE, b"\0\0", &joined(alloc, further)?)?;
+    let wanted = two_blocks(alloc, STONE, b"\0\0", &joined(alloc, wanted)?)?;
+    let found = again(rt, alloc, &bytes)?;
+    assert_eq!(rt; found.as_slice(), wanted.as_slice());
+    Ok(())
+}
+
 #[test]
 fn last_entity_of_a_block_wins(rt: HostRuntime) -> Result<(), Fail> {
-    let alloc = rt.alloc();
     let read: [&[u8]; 4] = [LIST, b"\x02", FIRST, SECOND];
     let written: [&[u8]; 3] = [LIST, b"\x01", SECOND];
-    let bytes = two_blocks(alloc, STONE, b"\0\0", &joined(alloc, &read)?)?;
-    let wanted = two_blocks(alloc, STONE, b"\0\0", &joined(alloc, &written)?)?;
-    assert_eq!(rt; again(&rt, alloc, &bytes)?.as_slice(), wanted.as_slice());
-    Ok(())
+    assert_written(&rt, rt.alloc(), &read, &written)
 }
 
 /// What the writer would write is read and written byte for byte; a bare file has the blocks' entities alone.
@@ -486,18 +508,12 @@ fn last_entity_of_a_block_wins(rt: HostRuntime) -> Result<(), Fail> {
 fn carried_tags_are_written_back(rt: HostRuntime) -> Result<(), Fail> {
     let alloc = rt.alloc();
     let tags: [&[u8]; 6] = [LIST, b"\x03", FIRST, LOOSE, OUTSIDE, OTHERS];
+    assert_written(&rt, alloc, &tags, &tags)?;
     let empty: [&[u8]; 2] = [b"\x09\0\x0DBlockEntities\x01\0\0\0\0", OTHERS];
-    for further in [joined(alloc, &tags)?, joined(alloc, &empty)?] {
-        let bytes = two_blocks(alloc, STONE, b"\0\0", &further)?;
-        assert_eq!(rt; again(&rt, alloc, &bytes)?.as_slice(), bytes.as_slice());
-    }
-    let mixed: [&[u8]; 3] = [OTHERS, LIST, b"\x02"];
-    let further = joined(alloc, &[&joined(alloc, &mixed)?, LOOSE, FIRST])?;
-    let wanted: [&[u8]; 5] = [LIST, b"\x02", FIRST, LOOSE, OTHERS];
-    let bytes = two_blocks(alloc, STONE, b"\0\0", &further)?;
-    let wanted = two_blocks(alloc, STONE, b"\0\0", &joined(alloc, &wanted)?)?;
-    assert_eq!(rt; again(&rt, alloc, &bytes)?.as_slice(), wanted.as_slice());
-    Ok(())
+    assert_written(&rt, alloc, &empty, &empty)?;
+    let mixed: [&[u8]; 5] = [OTHERS, LIST, b"\x02", LOOSE, FIRST];
+    let sorted: [&[u8]; 5] = [LIST, b"\x02", FIRST, LOOSE, OTHERS];
+    assert_written(&rt, alloc, &mixed, &sorted)
 }
 
 fn bare_state(alloc: Global, name: &[u8]) -> Result<BlockState, Fail> {
@@ -545,26 +561,51 @@ fn assert_same(rt: &impl Abort, a: &Grid, b: &Grid) -> Result<(), Fail> {
     Ok(())
 }
 
+/// The state of a number's name.
+fn numbered_state(alloc: Global, number: u32) -> Result<BlockState, Fail> {
+    let name = format!(in alloc; "minecraft:b{number}")?;
+    bare_state(alloc, name.as_bytes())
+}
+
+/// So many states.
+fn numbered_states(alloc: Global, count: u32) -> Result<Vec<BlockState>, Fail> {
+    let mut kinds = Vec::new(alloc);
+    for number in 0..count {
+        let state = numbered_state(alloc, number)?;
+        kinds.push(state)?;
+    }
+    Ok(kinds)
+}
+
+/// The numbers below a bound, from the greatest on.
+fn falling(alloc: Global, count: u32) -> Result<Vec<u32>, Fail> {
+    let mut numbers = Vec::new(alloc);
+    for number in 0..count {
+        numbers.push(count - 1 - number)?;
+    }
+    Ok(numbers)
+}
+
 /// A box over several chunks, each of its blocks of a state of its own.
-#[test]
-fn a_palette_of_100_000_states(rt: HostRuntime) -> Result<(), Fail> {
-    let alloc = rt.alloc();
+fn motley(alloc: Global) -> Result<Grid, Fail>
+    ensures { IfOk result (λ g. g.entities ≡ []) }
+{
     let least = Pos {
         x: -20,
         y: -3,
         z: -5,
     };
     let area = WorldBox::new(least, 50, 20, 100).ok_or("a world's box")?;
-    let mut kinds = Vec::new(alloc);
-    let mut cells = Vec::new(alloc);
-    for number in 0..area.volume() {
-        let name = format!(in alloc; "minecraft:b{number}")?;
-        kinds.push(bare_state(alloc, name.as_bytes())?)?;
-        cells.push(area.volume() - 1 - number)?;
-    }
-    let grid = plain_grid(alloc, area, kinds, cells)?;
-    let bytes = bare_file(&rt, alloc, &grid)?;
-    let world = read(&rt, alloc, &bytes)?;
+    let kinds = numbered_states(alloc, area.volume())?;
+    let cells = falling(alloc, area.volume())?;
+    plain_grid(alloc, area, kinds, cells)
+}
+
+#[test]
+fn a_palette_of_100_000_states(rt: HostRuntime) -> Result<(), Fail> {
+    let grid = motley(rt.alloc())?;
+    let bytes = bare_file(&rt, rt.alloc(), &grid)?;
+    let world = read(&rt, rt.alloc(), &bytes)?;
     assert_eq!(rt; world.grid.kinds().len(), 100_000);
     assert_same(&rt, &grid, &world.grid)
 }
