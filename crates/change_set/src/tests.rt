@@ -37,6 +37,11 @@ fn stretches<L: CellList>(list: &L) -> u32 {
     count
 }
 
+/// The position is of the chunk, or no chunk is asked for.
+fn is_wanted(area: &WorldBox, chunk: Option<u32>, at: Pos) -> bool {
+    chunk.is_none() || area.chunk_of(at) == chunk
+}
+
 /// The changes of each position of the box, or of a chunk of it, from one content to another.
 fn changed(
     alloc: Global,
@@ -50,7 +55,7 @@ fn changed(
         let Some(at) = area.position(index) else {
             break;
         };
-        if chunk.is_some() && area.chunk_of(at) != chunk {
+        if !is_wanted(area, chunk, at) {
             continue;
         }
         changes.push(&at, before, after)?;
@@ -205,17 +210,25 @@ fn lists_of_changes_are_read_by_place(rt: HostRuntime) -> Result<(), Fail> {
     Ok(())
 }
 
-/// Keeps four by four by four changes for a command that has none.
-fn keep(alloc: Global, kept: &mut Kept, source: Source) -> Result<(), Fail> {
+/// Changes of four by four by four blocks.
+fn some_changes(alloc: Global) -> Result<Changes, Fail> {
     let area = WorldBox::new(pos(0, 0, 0), 4, 4, 4).ok_or("a box")?;
     let air = block(alloc, "minecraft:air")?;
     let stone = block(alloc, "minecraft:stone")?;
-    let changes = changed(alloc, &area, None, &air, &stone)?;
-    if kept.get(source).is_some() {
-        return Err("some are kept already".into());
+    Ok(changed(alloc, &area, None, &air, &stone)?)
+}
+
+/// Keeps the changes of a command that has none.
+fn keep_new(kept: &mut Kept, source: Source, changes: Changes) -> Result<(), Fail> {
+    match kept.get(source) {
+        Some(_) => Err("some are kept already".into()),
+        None => Ok(kept.put(source, changes)?),
     }
-    kept.put(source, changes)?;
-    Ok(())
+}
+
+/// Keeps changes of a command that has none.
+fn keep(alloc: Global, kept: &mut Kept, source: Source) -> Result<(), Fail> {
+    keep_new(kept, source, some_changes(alloc)?)
 }
 
 #[test]

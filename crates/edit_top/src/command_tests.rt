@@ -48,34 +48,44 @@ fn row<'a>(names: &'a [&'a str], data: &'a [u8], more: &'a [u8]) -> Built<'a> {
     }
 }
 
-#[test]
-fn edits_carry_and_keep_block_entities(rt: HostRuntime) -> Result<(), Fail> {
-    let alloc = rt.alloc();
+/// The first of three blocks, a chest with an entity, is selected, and these edits leave the other world.
+fn assert_edits(
+    rt: &(impl Threads + Wait + Sync + Abort),
+    alloc: Global,
+    edits: &str,
+    replies: &str,
+    after: &Built<'_>,
+) -> Result<(), Fail> {
     let first = one_chest(alloc, AT_0)?;
-    let second = one_chest(alloc, AT_1)?;
     let before = row(&["minecraft:chest", "minecraft:air"], &[0, 1, 1], &first);
+    let script = format!(in alloc; "player anna\n//pos1 0,0,0\n//pos2 0,0,0\n{edits}")?;
+    let text = format!(in alloc; "0 anna 2 ok\n1 anna 3 ok\n{replies}")?;
+    assert_leaves(rt, alloc, &before, &script, &text, after)
+}
+
+#[test]
+fn move_carries_block_entity(rt: HostRuntime) -> Result<(), Fail> {
+    let second = one_chest(rt.alloc(), AT_1)?;
     let moved = row(&["minecraft:air", "minecraft:chest"], &[0, 1, 0], &second);
-    let facing = ["minecraft:chest[facing=north]", "minecraft:air"];
-    let turned = row(&facing, &[0, 1, 1], &first);
-    let front = "player anna\n//pos1 0,0,0\n//pos2 0,0,0\n";
-    for (edits, replies, after) in [
-        ("//move 1 east\n", "2 anna 4 changed 2\ndone 3\n", moved),
-        (
-            "//move 1 east\n//undo\n",
-            "2 anna 4 changed 2\n3 anna 5 changed 2\ndone 4\n",
-            before,
-        ),
-        (
-            "//set ^[facing=north]\n",
-            "2 anna 4 changed 1\ndone 3\n",
-            turned,
-        ),
-    ] {
-        let script = format!(in alloc; "{front}{edits}")?;
-        let text = format!(in alloc; "0 anna 2 ok\n1 anna 3 ok\n{replies}")?;
-        assert_leaves(&rt, alloc, &before, &script, &text, &after)?;
-    }
-    Ok(())
+    let replies = "2 anna 4 changed 2\ndone 3\n";
+    assert_edits(&rt, rt.alloc(), "//move 1 east\n", replies, &moved)
+}
+
+#[test]
+fn undo_restores_block_entity(rt: HostRuntime) -> Result<(), Fail> {
+    let first = one_chest(rt.alloc(), AT_0)?;
+    let same = row(&["minecraft:chest", "minecraft:air"], &[0, 1, 1], &first);
+    let replies = "2 anna 4 changed 2\n3 anna 5 changed 2\ndone 4\n";
+    assert_edits(&rt, rt.alloc(), "//move 1 east\n//undo\n", replies, &same)
+}
+
+#[test]
+fn property_pattern_keeps_block_entity(rt: HostRuntime) -> Result<(), Fail> {
+    let first = one_chest(rt.alloc(), AT_0)?;
+    let names = ["minecraft:chest[facing=north]", "minecraft:air"];
+    let turned = row(&names, &[0, 1, 1], &first);
+    let replies = "2 anna 4 changed 1\ndone 3\n";
+    assert_edits(&rt, rt.alloc(), "//set ^[facing=north]\n", replies, &turned)
 }
 
 /// A floor of 9 by 9 blocks, air where nothing else is said.

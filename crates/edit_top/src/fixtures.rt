@@ -120,7 +120,8 @@ pub(crate) fn joined(alloc: Global, parts: &[&[u8]]) -> Result<Vec<u8>, AllocErr
 pub(crate) fn words_of(alloc: Global, words: &[&str]) -> Result<Vec<String>, AllocError> {
     let mut owned = Vec::new(alloc);
     for word in words {
-        owned.push(String::from_str(alloc, word)?)?;
+        let word = String::from_str(alloc, word)?;
+        owned.push(word)?;
     }
     Ok(owned)
 }
@@ -153,9 +154,21 @@ impl<'a> Outside<'a> {
             ("anna.txt", self.script),
         ];
         for (name, bytes) in named {
-            files.push((String::from_str(alloc, name)?, bytes.to_vec(alloc)?))?;
+            let name = String::from_str(alloc, name)?;
+            let bytes = bytes.to_vec(alloc)?;
+            files.push((name, bytes))?;
         }
         Ok(files)
+    }
+
+    fn shelf(&self, alloc: Global) -> Result<MemoryShelf, Fail> {
+        let files = self.files(alloc)?;
+        Ok(MemoryShelf::new(files, self.loads_and_saves.to_vec(alloc)?))
+    }
+
+    fn sink(&self, alloc: Global) -> Result<MemorySink, Fail> {
+        let fails = self.puts.to_vec(alloc)?;
+        Ok(MemorySink::new(alloc, 1000, fails)?)
     }
 
     pub(crate) fn run_words(
@@ -165,9 +178,8 @@ impl<'a> Outside<'a> {
         words: &[&str],
     ) -> Result<Ended, Fail> {
         let words = words_of(alloc, words)?;
-        let fails = self.loads_and_saves.to_vec(alloc)?;
-        let mut shelf = MemoryShelf::new(self.files(alloc)?, fails);
-        let mut sink = MemorySink::new(alloc, 1000, self.puts.to_vec(alloc)?)?;
+        let mut shelf = self.shelf(alloc)?;
+        let mut sink = self.sink(alloc)?;
         let status = run(rt, alloc, &words, &mut shelf, &mut sink, &OpenGate);
         Ok(Ended {
             status,

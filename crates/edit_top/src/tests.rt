@@ -8,7 +8,7 @@ use crate::fixtures::{
 };
 use crate::{Status, run};
 use command_syntax::ScriptFault;
-use run_ports::{NullSink, OpenGate, Shelf, SteadyShelf};
+use run_ports::{Fail as Planned, NullSink, OpenGate, Shelf, SteadyShelf};
 use sponge_schematic::WorldFault;
 use std::alloc::Global;
 use std::process::Abort;
@@ -105,10 +105,23 @@ fn faults_of_scripts_are_told(rt: HostRuntime) -> Result<(), Fail> {
     assert_script_refused(&rt, alloc, &long, "TooManyLines", "too many commands")
 }
 
+/// A script with this second line is refused with this fault.
+fn assert_line_refused(
+    rt: &(impl Threads + Wait + Abort + Sync),
+    alloc: Global,
+    line: &str,
+    fault: &str,
+    text: &str,
+) -> Result<(), Fail> {
+    let script = format!(in alloc; "player anna\n{line}\n")?;
+    let fault = format!(in alloc; "Line {{ line: 2, fault: {fault} }}")?;
+    let text = format!(in alloc; "line 2: {text}")?;
+    assert_script_refused(rt, alloc, &script, &fault, &text)
+}
+
 /// Each fault of a line has its message.
 #[test]
 fn faults_of_lines_are_told(rt: HostRuntime) -> Result<(), Fail> {
-    let alloc = rt.alloc();
     for (line, fault, text) in [
         ("//set \"a", "OpenQuote", "open quote"),
         ("//dig", "UnknownCommand", "unknown command"),
@@ -119,26 +132,22 @@ fn faults_of_lines_are_told(rt: HostRuntime) -> Result<(), Fail> {
         ("//flip x", "BadDirection", "bad direction"),
         ("//sel ball", "BadOption", "bad option"),
     ] {
-        let script = format!(in alloc; "player anna\n{line}\n")?;
-        let fault = format!(in alloc; "Line {{ line: 2, fault: {fault} }}")?;
-        let text = format!(in alloc; "line 2: {text}")?;
-        assert_script_refused(&rt, alloc, &script, &fault, &text)?;
+        assert_line_refused(&rt, rt.alloc(), line, fault, text)?;
     }
     Ok(())
 }
 
-/// A script with this pattern in its second line is refused with this fault.
-fn assert_pattern_refused(
+/// A script with a bad term in its second line is refused with this fault.
+fn assert_term_refused(
     rt: &(impl Threads + Wait + Abort + Sync),
     alloc: Global,
-    pattern: &str,
+    line: &str,
     fault: &str,
     text: &str,
 ) -> Result<(), Fail> {
-    let script = format!(in alloc; "player anna\n//set {pattern}\n")?;
-    let fault = format!(in alloc; "Line {{ line: 2, fault: Term({fault}) }}")?;
-    let text = format!(in alloc; "line 2: term at {text}")?;
-    assert_script_refused(rt, alloc, &script, &fault, &text)
+    let fault = format!(in alloc; "Term({fault})")?;
+    let text = format!(in alloc; "term at {text}")?;
+    assert_line_refused(rt, alloc, line, &fault, &text)
 }
 
 /// Each fault of a term has its message.
@@ -161,112 +170,110 @@ fn faults_of_terms_are_told(rt: HostRuntime) -> Result<(), Fail> {
             "0: repeated key",
         ),
     ] {
-        assert_pattern_refused(&rt, alloc, pattern, fault, text)?;
+        let line = format!(in alloc; "//set {pattern}")?;
+        assert_term_refused(&rt, alloc, &line, fault, text)?;
     }
     Ok(())
+}
+
+/// A line with a pattern of 33 entries.
+fn too_many_entries(alloc: Global) -> Result<String, Fail> {
+    let mut line = String::from_str(alloc, "//set stone")?;
+    for _ in 0..32 {
+        line.push_str(",stone")?;
+    }
+    Ok(line)
+}
+
+/// A line with a state of 17 properties.
+fn too_many_properties(alloc: Global) -> Result<String, Fail> {
+    let mut line = String::from_str(alloc, "//set stone[k0=v")?;
+    for key in [
+        "k1", "k2", "k3", "k4", "k5", "k6", "k7", "k8", "k9", "ka", "kb", "kc", "kd", "ke", "kf",
+        "kg",
+    ] {
+        line.push_str(",")?;
+        line.push_str(key)?;
+        line.push_str("=v")?;
+    }
+    line.push_str("]")?;
+    Ok(line)
 }
 
 /// Each fault of too much in a term has its message.
 #[test]
 fn limits_of_terms_are_told(rt: HostRuntime) -> Result<(), Fail> {
     let alloc = rt.alloc();
-    let mut entries = String::from_str(alloc, "stone")?;
-    for _ in 0..32 {
-        entries.push_str(",stone")?;
-    }
-    let mut properties = String::from_str(alloc, "stone[k0=v")?;
-    for number in 1..17u8 {
-        properties.push_str(&format!(in alloc; ",k{number}=v")?)?;
-    }
-    properties.push_str("]")?;
-    for (line, fault, text) in [
-        ("//gmask %101", "Number { at: 0 }", "0: number"),
-        (
-            "//gmask \"%1 %2 %3 %4 %5\"",
-            "TooManyNoise { at: 12 }",
-            "12: too many noise terms",
-        ),
-        (
-            &format!(in alloc; "//set {entries}")?,
-            "TooManyEntries { at: 192 }",
-            "192: too many entries",
-        ),
-        (
-            &format!(in alloc; "//set {properties}")?,
-            "State { at: 0, fault: TooManyProperties }",
-            "0: too many properties",
-        ),
-    ] {
-        let script = format!(in alloc; "player anna\n{line}\n")?;
-        let fault = format!(in alloc; "Line {{ line: 2, fault: Term({fault}) }}")?;
-        let text = format!(in alloc; "line 2: term at {text}")?;
-        assert_script_refused(&rt, alloc, &script, &fault, &text)?;
-    }
-    Ok(())
+    let chance = "//gmask %101";
+    assert_term_refused(&rt, alloc, chance, "Number { at: 0 }", "0: number")?;
+    let noise = "//gmask \"%1 %2 %3 %4 %5\"";
+    let fault = "TooManyNoise { at: 12 }";
+    assert_term_refused(&rt, alloc, noise, fault, "12: too many noise terms")?;
+    let entries = too_many_entries(alloc)?;
+    let fault = "TooManyEntries { at: 192 }";
+    assert_term_refused(&rt, alloc, &entries, fault, "192: too many entries")?;
+    let properties = too_many_properties(alloc)?;
+    let fault = "State { at: 0, fault: TooManyProperties }";
+    assert_term_refused(&rt, alloc, &properties, fault, "0: too many properties")
+}
+
+/// The script that sets a block of stone to dirt ends so where these calls fail.
+fn assert_fails(
+    rt: &(impl Threads + Wait + Abort + Sync),
+    alloc: Global,
+    fails: (&[Planned], &[Planned]),
+    status: &str,
+    text: &str,
+    out: &[u8],
+) -> Result<(), Fail> {
+    let world = one_block(alloc, "minecraft:stone")?;
+    let outside = Outside {
+        loads_and_saves: fails.0,
+        puts: fails.1,
+        ..Outside::steady(&world, SET_DIRT)
+    };
+    outside
+        .run(rt, alloc)?
+        .assert_is(rt, alloc, status, text, out)
 }
 
 #[test]
-fn failing_save_put_and_load(rt: HostRuntime) -> Result<(), Fail> {
+fn failing_save_and_put(rt: HostRuntime) -> Result<(), Fail> {
     let alloc = rt.alloc();
-    let world = one_block(alloc, "minecraft:stone")?;
-    let long = vec![in alloc; b'#'; 1_048_577]?;
-    let steady = Outside::steady(&world, SET_DIRT);
-    let at_world = [fails_at(0, None)];
-    let at_script = [fails_at(1, None)];
-    let at_save = [fails_at(2, None)];
     let in_save = [fails_at(2, Some(10))];
+    let at_save = [fails_at(2, None)];
     let in_text = [fails_at(0, Some(5))];
+    let text = "fault: cannot save out.schem\n";
+    let begun = &ONE_DIRT[..10];
+    assert_fails(&rt, alloc, (&in_save, &[]), "SaveFault", text, begun)?;
+    assert_fails(&rt, alloc, (&at_save, &[]), "SaveFault", text, OLD)?;
+    let text = "0 ann";
+    assert_fails(&rt, alloc, (&[], &in_text), "PrintFault", text, &ONE_DIRT)
+}
+
+#[test]
+fn failing_load(rt: HostRuntime) -> Result<(), Fail> {
+    let alloc = rt.alloc();
+    let at_script = [fails_at(1, None)];
+    let at_world = [fails_at(0, None)];
     let in_name = [fails_at(1, Some(3))];
-    for (loads_and_saves, puts, status, text, out) in [
-        (
-            in_save.as_slice(),
-            [].as_slice(),
-            "SaveFault",
-            "fault: cannot save out.schem\n",
-            &ONE_DIRT[..10],
-        ),
-        (
-            &at_save,
-            &[],
-            "SaveFault",
-            "fault: cannot save out.schem\n",
-            OLD,
-        ),
-        (&[], &in_text, "PrintFault", "0 ann", &ONE_DIRT),
-        (
-            &at_script,
-            &[],
-            "ReadFault { file: 1 }",
-            "fault: cannot read anna.txt\n",
-            OLD,
-        ),
-        (
-            &at_world,
-            &[],
-            "ReadFault { file: 0 }",
-            "fault: cannot read in.schem\n",
-            OLD,
-        ),
-        (
-            &at_world,
-            &in_name,
-            "ReadFault { file: 0 }",
-            "fault: cannot read in.",
-            OLD,
-        ),
-    ] {
-        let outside = Outside {
-            loads_and_saves,
-            puts,
-            ..steady
-        };
-        outside
-            .run(&rt, alloc)?
-            .assert_is(&rt, alloc, status, text, out)?;
-    }
+    let status = "ReadFault { file: 1 }";
+    let text = "fault: cannot read anna.txt\n";
+    assert_fails(&rt, alloc, (&at_script, &[]), status, text, OLD)?;
+    let status = "ReadFault { file: 0 }";
+    let text = "fault: cannot read in.schem\n";
+    assert_fails(&rt, alloc, (&at_world, &[]), status, text, OLD)?;
+    let text = "fault: cannot read in.";
+    assert_fails(&rt, alloc, (&at_world, &in_name), status, text, OLD)
+}
+
+#[test]
+fn a_script_that_is_too_long(rt: HostRuntime) -> Result<(), Fail> {
+    let alloc = rt.alloc();
+    let long = vec![in alloc; b'#'; 1_048_577]?;
     let outside = Outside {
         script: &long,
-        ..steady
+        ..Outside::steady(&ONE_DIRT, SET_DIRT)
     };
     let text = "fault: too long: anna.txt\n";
     outside
@@ -446,33 +453,34 @@ fn run_steadily(
     run(rt, alloc, words, shelf, sink, &OpenGate)
 }
 
+/// A run over a steady file store of this world and this script ends so and leaves OUT so.
+fn assert_steadily(
+    rt: &(impl Threads + Wait + Abort + Sync),
+    alloc: Global,
+    outside: &Outside<'_>,
+    status: &str,
+    out: &[u8],
+) -> Result<(), Fail> {
+    let words = words_of(alloc, &WORDS)?;
+    let mut shelf = SteadyShelf::new(outside.files(alloc)?);
+    let ended = run_steadily(rt, alloc, &words, &mut shelf, &mut NullSink::new());
+    let shown = format!(in alloc; "{ended:?}")?;
+    assert_eq!(rt; shown.as_str(), status);
+    let left = shelf.load(alloc, "out.schem", 1000).ok().ok_or("OUT")?;
+    assert_eq!(rt; left.as_slice(), out);
+    Ok(())
+}
+
 #[test]
 fn a_steady_outside_never_fails_a_run(rt: HostRuntime) -> Result<(), Fail> {
     let alloc = rt.alloc();
     let world = one_block(alloc, "minecraft:stone")?;
-    for (world, script, status, out) in [
-        (world.as_slice(), SET_DIRT, "Done", ONE_DIRT.as_slice()),
-        (
-            b"\x1F\x8B",
-            SET_DIRT,
-            "WorldRefused { fault: Compressed }",
-            OLD,
-        ),
-        (
-            &world,
-            "",
-            "ScriptRefused { script: 1, fault: NoPlayer }",
-            OLD,
-        ),
-    ] {
-        let words = words_of(alloc, &WORDS)?;
-        let files = Outside::steady(world, script).files(alloc)?;
-        let mut shelf = SteadyShelf::new(files);
-        let ended = run_steadily(&rt, alloc, &words, &mut shelf, &mut NullSink::new());
-        let shown = format!(in alloc; "{ended:?}")?;
-        assert_eq!(rt; shown.as_str(), status);
-        let left = shelf.load(alloc, "out.schem", 1000).ok().ok_or("OUT")?;
-        assert_eq!(rt; left.as_slice(), out);
-    }
-    Ok(())
+    let set = Outside::steady(&world, SET_DIRT);
+    assert_steadily(&rt, alloc, &set, "Done", &ONE_DIRT)?;
+    let compressed = Outside::steady(b"\x1F\x8B", SET_DIRT);
+    let status = "WorldRefused { fault: Compressed }";
+    assert_steadily(&rt, alloc, &compressed, status, OLD)?;
+    let empty = Outside::steady(&world, "");
+    let status = "ScriptRefused { script: 1, fault: NoPlayer }";
+    assert_steadily(&rt, alloc, &empty, status, OLD)
 }

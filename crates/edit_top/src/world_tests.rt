@@ -60,35 +60,55 @@ fn row(alloc: Global, names: &[&str], data: &[u8]) -> Result<Vec<u8>, Fail> {
     built.file(alloc)
 }
 
+/// The names of 200 states.
+fn many_names(alloc: Global) -> Result<Vec<String>, Fail> {
+    let mut names = Vec::new(alloc);
+    for number in 0..200u16 {
+        let name = format!(in alloc; "minecraft:b{number}")?;
+        names.push(name)?;
+    }
+    Ok(names)
+}
+
+/// Block 150 has the first one's state, and those behind it have their numbers one lower.
+fn set_number(number: u16) -> u16 {
+    match number {
+        150 => 0,
+        151.. => number - 1,
+        _ => number,
+    }
+}
+
+/// 200 blocks with a state each; or block 3 with a new state and block 150 with that of the first.
+fn many_blocks(alloc: Global, is_set: bool) -> Result<Vec<u8>, Fail> {
+    let mut data = Vec::new(alloc);
+    for number in 0..200u16 {
+        push_varint(&mut data, if is_set { set_number(number) } else { number })?;
+    }
+    let all = many_names(alloc)?;
+    let names = kept_names(alloc, &all, is_set)?;
+    row(alloc, &names, &data)
+}
+
+/// The palette of the 200 blocks.
+fn kept_names<'a>(alloc: Global, all: &'a [String], is_set: bool) -> Result<Vec<&'a str>, Fail> {
+    let mut names = Vec::new(alloc);
+    for (number, name) in all.iter().enumerate() {
+        match number {
+            3 if is_set => names.push("minecraft:stone")?,
+            150 if is_set => {}
+            _ => names.push(name.as_str())?,
+        }
+    }
+    Ok(names)
+}
+
 /// Of 200 blocks with a state each, one gets a new state and one the state of the first.
 #[test]
 fn a_palette_of_more_than_128_entries_is_kept(rt: HostRuntime) -> Result<(), Fail> {
     let alloc = rt.alloc();
-    let mut all = Vec::new(alloc);
-    let mut data = Vec::new(alloc);
-    let mut set_data = Vec::new(alloc);
-    for number in 0..200u16 {
-        all.push(format!(in alloc; "minecraft:b{number}")?)?;
-        push_varint(&mut data, number)?;
-        let set_number = match number {
-            150 => 0,
-            151.. => number - 1,
-            _ => number,
-        };
-        push_varint(&mut set_data, set_number)?;
-    }
-    let mut names = Vec::new(alloc);
-    let mut set_names = Vec::new(alloc);
-    for (number, name) in all.iter().enumerate() {
-        names.push(name.as_str())?;
-        match number {
-            3 => set_names.push("minecraft:stone")?,
-            150 => {}
-            _ => set_names.push(name.as_str())?,
-        }
-    }
-    let world = row(alloc, &names, &data)?;
-    let set = row(alloc, &set_names, &set_data)?;
+    let world = many_blocks(alloc, false)?;
+    let set = many_blocks(alloc, true)?;
     let script =
         "player anna\n//pos1 3,0,0\n//pos2 3,0,0\n//set stone\n//pos1 150,0,0\n//pos2 150,0,0\n//set b0\n";
     let text =
@@ -313,19 +333,8 @@ fn beginning(bytes: &[u8]) -> &[u8] {
 /// Each fault of a file that spells no tag has its message.
 #[test]
 fn faults_of_tags_are_told(rt: HostRuntime) -> Result<(), Fail> {
-    let alloc = rt.alloc();
-    let mut deep = b"\x09\x00\x00".to_vec(alloc)?;
-    for _ in 0..512 {
-        deep.extend_from_slice(b"\x09\x00\x00\x00\x01")?;
-    }
-    let cut = one_block(alloc, "minecraft:stone")?;
     for (world, fault, text) in [
-        (
-            deep.as_slice(),
-            "Nbt(Deep { at: 2563 })",
-            "nbt deep at 2563",
-        ),
-        (b"\x1F\x8B\x08", "Compressed", "compressed"),
+        (b"\x1F\x8B\x08".as_slice(), "Compressed", "compressed"),
         (b"", "Nbt(Short { at: 0 })", "nbt short at 0"),
         (b"\x0D", "Nbt(BadType { at: 0 })", "nbt type at 0"),
         (
@@ -343,30 +352,33 @@ fn faults_of_tags_are_told(rt: HostRuntime) -> Result<(), Fail> {
             "Nbt(Trailing { at: 4 })",
             "nbt trailing at 4",
         ),
-        (beginning(&cut), "Nbt(Short { at: 89 })", "nbt short at 89"),
     ] {
-        assert_refused(&rt, alloc, world, fault, text)?;
+        assert_refused(&rt, rt.alloc(), world, fault, text)?;
     }
     Ok(())
+}
+
+#[test]
+fn a_file_that_is_cut_is_told(rt: HostRuntime) -> Result<(), Fail> {
+    let whole = one_block(rt.alloc(), "minecraft:stone")?;
+    let cut = beginning(&whole);
+    let fault = "Nbt(Short { at: 89 })";
+    assert_refused(&rt, rt.alloc(), cut, fault, "nbt short at 89")
+}
+
+#[test]
+fn lists_in_lists_are_told(rt: HostRuntime) -> Result<(), Fail> {
+    let mut deep = b"\x09\x00\x00".to_vec(rt.alloc())?;
+    for _ in 0..512 {
+        deep.extend_from_slice(b"\x09\x00\x00\x00\x01")?;
+    }
+    let fault = "Nbt(Deep { at: 2563 })";
+    assert_refused(&rt, rt.alloc(), &deep, fault, "nbt deep at 2563")
 }
 
 /// Each fault of a file whose tag is no schematic has its message.
 #[test]
 fn faults_of_schematics_are_told(rt: HostRuntime) -> Result<(), Fail> {
-    let alloc = rt.alloc();
-    let block = block_with(&["stone"], b"");
-    let empty = Built {
-        sizes: [1, 0, 1],
-        ..block
-    };
-    let large = Built {
-        sizes: [65_535, 512, 2],
-        ..block
-    };
-    let far = Built {
-        least: [0, 2048, 0],
-        ..block
-    };
     for (world, fault, text) in [
         (
             b"\x01\x00\x00\x07".as_slice(),
@@ -388,17 +400,45 @@ fn faults_of_schematics_are_told(rt: HostRuntime) -> Result<(), Fail> {
             "Version(-3)",
             "version -3",
         ),
-        (empty.file(alloc)?.as_slice(), "Empty", "empty"),
-        (
-            large.file(alloc)?.as_slice(),
-            "TooLarge { volume: 67107840 }",
-            "too large 67107840",
-        ),
-        (far.file(alloc)?.as_slice(), "OutOfRange", "out of range"),
     ] {
-        assert_refused(&rt, alloc, world, fault, text)?;
+        assert_refused(&rt, rt.alloc(), world, fault, text)?;
     }
     Ok(())
+}
+
+/// The same of a world that is put together.
+fn assert_built_refused(
+    rt: &(impl Threads + Wait + Abort + Sync),
+    alloc: Global,
+    world: &Built<'_>,
+    fault: &str,
+    text: &str,
+) -> Result<(), Fail> {
+    let world = world.file(alloc)?;
+    assert_refused(rt, alloc, &world, fault, text)
+}
+
+/// Each fault of a schematic's box has its message.
+#[test]
+fn faults_of_boxes_are_told(rt: HostRuntime) -> Result<(), Fail> {
+    let alloc = rt.alloc();
+    let block = block_with(&["stone"], b"");
+    let empty = Built {
+        sizes: [1, 0, 1],
+        ..block
+    };
+    assert_built_refused(&rt, alloc, &empty, "Empty", "empty")?;
+    let large = Built {
+        sizes: [65_535, 512, 2],
+        ..block
+    };
+    let fault = "TooLarge { volume: 67107840 }";
+    assert_built_refused(&rt, alloc, &large, fault, "too large 67107840")?;
+    let far = Built {
+        least: [0, 2048, 0],
+        ..block
+    };
+    assert_built_refused(&rt, alloc, &far, "OutOfRange", "out of range")
 }
 
 /// Each fault of a schematic's palette or block data has its message.
@@ -417,7 +457,7 @@ fn faults_of_blocks_are_told(rt: HostRuntime) -> Result<(), Fail> {
             "palette entry 0: bad property",
         ),
     ] {
-        assert_refused(&rt, alloc, &one_block(alloc, name)?, fault, text)?;
+        assert_built_refused(&rt, alloc, &block_with(&[name], b""), fault, text)?;
     }
     for (data, fault, text) in [
         (
@@ -445,7 +485,7 @@ fn faults_of_blocks_are_told(rt: HostRuntime) -> Result<(), Fail> {
             data,
             ..block_with(&["stone"], b"")
         };
-        assert_refused(&rt, alloc, &block.file(alloc)?, fault, text)?;
+        assert_built_refused(&rt, alloc, &block, fault, text)?;
     }
     Ok(())
 }
