@@ -18,6 +18,3 @@ pub use spreading::spread;
 
 /// The type byte of a compound.
 const COMPOUND: u8 = 10;
-
-#[cfg(test)]
-mod tests;

@@ -10,6 +10,3 @@ mod palette;
 pub use first_appearance::numbering_law;
 pub use memory::Memory;
 pub use palette::Palette;
-
-#[cfg(test)]
-mod tests;

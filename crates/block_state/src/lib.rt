@@ -27,6 +27,3 @@ pub use reading::read_state;
 pub use term_fault::TermFault;
 pub use turning::transform;
 pub use writing::write_state;
-
-#[cfg(test)]
-mod tests;

@@ -31,6 +31,3 @@ pub use part::Part;
 pub use part_builder::PartBuilder;
 pub use proposed::Proposed;
 pub use run::Run;
-
-#[cfg(test)]
-mod tests;

@@ -16,6 +16,3 @@ pub use bounds::clip_box;
 pub use compose::{then_flip, then_turn};
 pub use placing::{place, source};
 pub use relative_box::RelativeBox;
-
-#[cfg(test)]
-mod tests;

@@ -17,4 +17,3 @@ pub mod KeepLemmas
 pub mod PlanLemmas
 pub mod LimitLemmas
 pub mod LawLemmas
-pub mod TestLemmas

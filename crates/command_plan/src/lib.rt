@@ -28,10 +28,3 @@ pub use memory::Memory;
 pub use plan::Plan;
 pub use plan_fault::PlanFault;
 pub use planned::Planned;
-
-#[cfg(test)]
-mod fixtures;
-#[cfg(test)]
-mod limits;
-#[cfg(test)]
-mod tests;

@@ -18,7 +18,7 @@ use std::alloc::Global;
 
 /// A command with the chunks that it accesses, by rising index, and whether a later undo or redo takes it, so
 /// that its changes must be kept.
-#[derive(Debug, Drop)]
+#[derive(Drop)]
 pub struct Planned {
     /// What the command is.
     pub step: Step,

@@ -7,7 +7,6 @@ ghost use Rattle.command_plan.specs.Cuts.{IsApart, IsCutOf, IsSpreadOf};
 use crate::rectangle::{Rectangle, Run, Spread};
 
 /// No chunk.
-#[tactic(auto, using(crate::proofs::SpreadLemmas::spread_of_nothing, crate::proofs::SpreadLemmas::spread_of_none))]
 pub(crate) fn nothing() -> Spread
     ensures nothing { (area : Area) → IsSpreadOf area [] result }
     ensures apart { (area : Area) (boxes : List Area) → IsApart area boxes → IsSpreadOf area boxes result }

@@ -47,8 +47,3 @@ pub use block_state::TermFault;
 pub use fault::{LineFault, ScriptFault};
 pub use memory::Memory;
 pub use script::read_script;
-
-#[cfg(test)]
-mod shown;
-#[cfg(test)]
-mod tests;

@@ -72,8 +72,3 @@ pub use transform_laws::{
 };
 pub use try_copy::TryCopy;
 pub use world_box::WorldBox;
-
-#[cfg(test)]
-mod sharing_tests;
-#[cfg(test)]
-mod tests;

@@ -25,13 +25,3 @@ fn key_bytes(seed: u64) -> [u8; 32]
     key[..8].copy_from_slice(&seed.to_le_bytes());
     key
 }
-
-#[cfg(test)]
-mod tests {
-    use super::random_word;
-
-    #[test]
-    fn word_at_the_last_position(rt: HostRuntime) {
-        assert_eq!(rt; random_word(0, 2, 295_147_905_179_352_825_848), 400_537_977);
-    }
-}

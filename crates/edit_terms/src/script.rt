@@ -8,7 +8,7 @@ use crate::pos::Pos;
 use crate::region::Kind;
 
 /// A command of a script. Counts are 1 to 1,000, radii 0 to 1,000 and heights 1 to 4,096.
-#[derive(Debug, Drop)]
+#[derive(Drop)]
 pub enum Command {
     /// `//pos1`: sets the selection's first position.
     Pos1 {
@@ -102,14 +102,14 @@ pub enum Command {
 }
 
 /// A command and the line of the script that it stands in, from 1.
-#[derive(Debug, Drop)]
+#[derive(Drop)]
 pub struct Line {
     pub number: u32,
     pub command: Command,
 }
 
 /// One player's commands in order, at most 10,000.
-#[derive(Debug, Drop)]
+#[derive(Drop)]
 pub struct Script {
     pub player: Name,
     pub lines: Items<Line>,
@@ -117,7 +117,7 @@ pub struct Script {
 
 /// What a run starts from: the opening world, the players' scripts, the seed of random choices and how
 /// many edits each player's history keeps.
-#[derive(Debug, Drop)]
+#[derive(Drop)]
 pub struct Case {
     pub opening: Grid,
     pub scripts: Items<Script>,

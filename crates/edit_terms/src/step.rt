@@ -23,7 +23,7 @@ pub enum Refusal {
 }
 
 /// What a command does to the world, its selection and place fixed.
-#[derive(Debug, Drop)]
+#[derive(Drop)]
 pub enum Work {
     /// Fills a region with a pattern, where the mask holds if there is one.
     Fill {
@@ -73,7 +73,7 @@ pub enum Work {
 
 /// A resolved command: its work, and the global mask, the selection and the clipboard as they stand
 /// before the command, whether it uses them or not.
-#[derive(Debug, Drop)]
+#[derive(Drop)]
 pub struct Spec {
     pub work: Work,
     pub global: Option<Mask>,
@@ -82,7 +82,7 @@ pub struct Spec {
 }
 
 /// What a command is in its session.
-#[derive(Debug, Drop)]
+#[derive(Drop)]
 pub enum Step {
     /// It changes the session alone.
     Settled,

@@ -7,25 +7,13 @@
 #![tactic(auto)]
 
 mod answering;
-#[cfg(test)]
-mod check_tests;
 mod check_text;
 mod checking;
-#[cfg(test)]
-mod command_tests;
-#[cfg(test)]
-mod drill_tests;
 mod drill_text;
 mod drilling;
-#[cfg(test)]
-mod fixtures;
 mod loading;
 mod outputs;
 mod planning;
-#[cfg(test)]
-mod players;
-#[cfg(test)]
-mod plot_tests;
 mod rounds;
 mod run_text;
 mod running;
@@ -33,14 +21,10 @@ mod script_fault;
 mod state_fault;
 mod status;
 mod telling;
-#[cfg(test)]
-mod tests;
 mod text_laws;
 mod top_call;
 mod words;
 mod world_fault;
-#[cfg(test)]
-mod world_tests;
 
 pub use checking::check;
 pub use drilling::drill;

@@ -1,4 +1,4 @@
-//! The top call.
+//! The call that runs scripts over a world's file.
 
 ghost use Rattle.std.specs.Prelude.{◌≡◌, ◌≤◌, length, map, string_bytes, IfOk, IfErr, All};
 ghost use Rattle.run_ports.specs.Store.{IsLater};

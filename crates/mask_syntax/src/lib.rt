@@ -17,6 +17,3 @@ mod union;
 pub use block_state::TermFault;
 pub use mask::read_mask;
 pub use memory::Memory;
-
-#[cfg(test)]
-mod tests;

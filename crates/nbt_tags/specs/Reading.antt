@@ -66,10 +66,14 @@ unfoldable pub kind_at : List ℕ → Read Kind
 kind_at [] = Err (flaw_at Short [])
 kind_at (byte ∷ rest) = known_kind (byte ∷ rest) (kind_of byte) rest
 
+-- a byte as a list's element type, where these bytes begin with it and those are behind it
+abbrev pub known_element : List ℕ → ℕ → List ℕ → Read ℕ
+known_element bytes byte rest = if nat_lt 12 byte then Err (flaw_at BadType bytes) else Ok (byte, rest)
+
 -- the element type of a list
 unfoldable pub element_at : List ℕ → Read ℕ
 element_at [] = Err (flaw_at Short [])
-element_at (byte ∷ rest) = if nat_lt 12 byte then Err (flaw_at BadType (byte ∷ rest)) else Ok (byte, rest)
+element_at (byte ∷ rest) = known_element (byte ∷ rest) byte rest
 
 -- a count that stands at the first bytes, and was read there
 abbrev pub natural_count : List ℕ → ℤ → List ℕ → Read ℕ

@@ -3,7 +3,7 @@
 
 ghost use Rattle.std.specs.Prelude.{◌≡◌, ◌<◌, ◌^◌, length, IfOk};
 ghost use Rattle.std.specs.Int.{w8, w16, w32, w64};
-ghost use Rattle.nbt_tags.specs.Reading.{Gives, bytes_at, number_at, signed_at, text_at, kind_at, element_at, count_at, natural_count};
+ghost use Rattle.nbt_tags.specs.Reading.{Gives, bytes_at, number_at, signed_at, text_at, kind_at, element_at, known_element, count_at, natural_count};
 
 use crate::flaw::{Cause, Failure, flaw_at};
 use crate::kind::{Kind, kind_of};
@@ -107,13 +107,23 @@ pub fn element_at(bytes: &[u8]) -> Result<(u8, &[u8]), Failure>
 {
     match bytes {
         [] => Err(flaw_at(Cause::Short, bytes)),
-        [byte, rest @ ..] => {
-            if 12 < *byte {
-                return Err(flaw_at(Cause::BadType, bytes));
-            }
-            Ok((*byte, rest))
-        }
+        [byte, rest @ ..] => known_element(bytes, *byte, rest),
     }
+}
+
+/// An element type that stands at the first of the bytes, and was read there.
+fn known_element<'a>(
+    bytes: &'a [u8],
+    element: u8,
+    rest: &'a [u8],
+) -> Result<(u8, &'a [u8]), Failure>
+    ensures { Gives (λ x. (x.0, x.1.now)) result
+        (known_element bytes.now element rest.now) }
+{
+    if 12 < element {
+        return Err(flaw_at(Cause::BadType, bytes));
+    }
+    Ok((element, rest))
 }
 
 /// A count that stands at the first of the bytes, and was read there.

@@ -31,6 +31,3 @@ pub use sqlite_items::Items;
 pub use tag::{Named, Tag};
 pub use values::Values;
 pub use writing::{append_row, encode, encode_row};
-
-#[cfg(test)]
-mod tests;

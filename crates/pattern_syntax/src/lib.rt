@@ -16,6 +16,3 @@ mod weight;
 pub use block_state::TermFault;
 pub use memory::Memory;
 pub use pattern::read_pattern;
-
-#[cfg(test)]
-mod tests;

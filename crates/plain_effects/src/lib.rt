@@ -33,8 +33,3 @@ mod visit;
 pub use job::Job;
 pub use memory::Memory;
 pub use proposing::proposed;
-
-#[cfg(test)]
-mod fixtures;
-#[cfg(test)]
-mod tests;

@@ -36,8 +36,3 @@ pub use pattern::pattern_value;
 pub use region::is_inside;
 pub use scene::Scene;
 pub use selection::is_selected;
-
-#[cfg(test)]
-mod fixtures;
-#[cfg(test)]
-mod tests;

@@ -6,14 +6,9 @@
 #![tactic(auto)]
 
 mod commands;
-#[cfg(test)]
-mod fixtures;
 mod history;
 mod masks;
 mod session;
 
 pub use memory::Memory;
 pub use session::Session;
-
-#[cfg(test)]
-mod tests;

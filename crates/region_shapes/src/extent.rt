@@ -1,7 +1,7 @@
 //! The coordinates of a box along one axis.
 
-ghost use Rattle.std.specs.Prelude.{◌≡◌, ◌+◌, ◌*◌, ◌<◌, ◌^◌, pos, negsuc, ◌+ℤ◌, ◌-ℤ◌, ◌≤ℤ◌, ◌<ℤ◌};
-ghost use Rattle.std.specs.Int.{int_min, int_max};
+ghost use Rattle.std.specs.Prelude.{◌≡◌, ◌+◌, ◌*◌, ◌<◌, ◌^◌, pos, negsuc, ◌+ℤ◌, ◌-ℤ◌, ◌≤ℤ◌, ◌<ℤ◌, FitsSigned};
+ghost use Rattle.std.specs.Int.{w32, int_min, int_max};
 ghost use Rattle.edit_terms.specs.Frame.{count_between, count_up_to};
 ghost use Rattle.region_shapes.specs.Extents.{IsExtent};
 
@@ -50,12 +50,12 @@ pub(crate) fn around_z(p: &Pos, reach: u64) -> Extent
     }
 }
 
-/// The coordinates x of two positions and between them.
-pub(crate) fn between_x(p: &Pos, q: &Pos) -> Extent
-    ensures { IsExtent result (int_min p.now.x q.now.x) (count_between p.now.x q.now.x) }
+/// Two coordinates and those between them.
+fn between(first: i64, second: i64) -> Extent
+    requires first { FitsSigned w32 first }
+    requires second { FitsSigned w32 second }
+    ensures { IsExtent result (int_min first second) (count_between first second) }
 {
-    let first = i64::from(p.x);
-    let second = i64::from(q.x);
     if first < second {
         return Extent {
             from: first,
@@ -66,42 +66,27 @@ pub(crate) fn between_x(p: &Pos, q: &Pos) -> Extent
         from: second,
         to: first + 1,
     }
+}
+
+/// The coordinates x of two positions and between them.
+pub(crate) fn between_x(p: &Pos, q: &Pos) -> Extent
+    ensures { IsExtent result (int_min p.now.x q.now.x) (count_between p.now.x q.now.x) }
+{
+    between(i64::from(p.x), i64::from(q.x))
 }
 
 /// The coordinates y of two positions and between them.
 pub(crate) fn between_y(p: &Pos, q: &Pos) -> Extent
     ensures { IsExtent result (int_min p.now.y q.now.y) (count_between p.now.y q.now.y) }
 {
-    let first = i64::from(p.y);
-    let second = i64::from(q.y);
-    if first < second {
-        return Extent {
-            from: first,
-            to: second + 1,
-        };
-    }
-    Extent {
-        from: second,
-        to: first + 1,
-    }
+    between(i64::from(p.y), i64::from(q.y))
 }
 
 /// The coordinates z of two positions and between them.
 pub(crate) fn between_z(p: &Pos, q: &Pos) -> Extent
     ensures { IsExtent result (int_min p.now.z q.now.z) (count_between p.now.z q.now.z) }
 {
-    let first = i64::from(p.z);
-    let second = i64::from(q.z);
-    if first < second {
-        return Extent {
-            from: first,
-            to: second + 1,
-        };
-    }
-    Extent {
-        from: second,
-        to: first + 1,
-    }
+    between(i64::from(p.z), i64::from(q.z))
 }
 
 /// So many coordinates x from a position's on.

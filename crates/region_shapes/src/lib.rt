@@ -25,6 +25,3 @@ pub use chunk_index::{chunks_of, is_part};
 pub use membership::contains;
 pub use span::Span;
 pub use span_iter::{SpanIter, rows};
-
-#[cfg(test)]
-mod tests;

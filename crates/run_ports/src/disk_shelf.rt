@@ -1,4 +1,4 @@
-ghost use Rattle.std.specs.Prelude.{◌≡◌, ◌≤◌, None, IfOk, length};
+ghost use Rattle.std.specs.Prelude.{◌≡◌, ◌≤◌, ℕ, List, None, IfOk, length};
 ghost use Rattle.run_ports.specs.Store.{IsLater};
 ghost use Rattle.run_ports.specs.StoreCounts.{no_counts, store_state, counts_loaded, counts_saved};
 
@@ -33,6 +33,20 @@ impl<R: Files + Drop> DiskShelf<R> {
             faults: 0,
             longs: 0,
         }
+    }
+
+    /// How many loads and saves failed, under any name.
+    pub fn faults(&self) -> u64
+        ensures { (name : List ℕ) → (⟦<DiskShelf<R> as Shelf>⟧.seen self.now).faults name ≡ result }
+    {
+        self.faults
+    }
+
+    /// How many loads were of a file that was too long.
+    pub fn longs(&self) -> u64
+        ensures { (⟦<DiskShelf<R> as Shelf>⟧.seen self.now).longs ≡ result }
+    {
+        self.longs
     }
 }
 
@@ -94,50 +108,5 @@ fn load_error(error: io::Error) -> LoadError {
     match error.kind() {
         ErrorKind::OutOfMemory => LoadError::Memory,
         _ => LoadError::Failed,
-    }
-}
-
-#[cfg(test)]
-mod tests {
-    use super::*;
-    use std::rt::Env;
-    use std::test::Fail;
-    use std::{env, process};
-
-    #[test]
-    fn disk_shelf_keeps_files(rt: HostRuntime) -> Result<(), Fail> {
-        let alloc = rt.alloc();
-        let temp = env::temp_dir(&rt)?;
-        let folder = format!(in alloc;
-            "{}/run_ports_{}",
-            temp.display(),
-            process::id(rt.process())
-        )?;
-        fs::create_dir(&rt, folder.as_str())?;
-        let name = format!(in alloc; "{folder}/file")?;
-        let nowhere = format!(in alloc; "{folder}/none/file")?;
-        let bytes: Vec<u8> = (0..10_000u32).map(|i| (i % 251) as u8).collect(alloc)?;
-
-        let mut shelf = DiskShelf::new(&rt);
-        let saved = shelf.save(name.as_str(), bytes.clone()?);
-        let loaded = shelf.load(alloc, name.as_str(), 10_000);
-        let long = shelf.load(alloc, name.as_str(), 9_999);
-        let endless = shelf.load(alloc, "/dev/zero", 100);
-        let counted = (shelf.faults, shelf.longs);
-        let missing = shelf.load(alloc, nowhere.as_str(), 100);
-        let unsaved = shelf.save(nowhere.as_str(), bytes.clone()?);
-        let unnamed = shelf.load(alloc, "", 100);
-        fs::remove_dir_all(&rt, folder.as_str())?;
-
-        assert!(rt; saved.is_ok());
-        assert!(rt; loaded == Ok(bytes));
-        assert!(rt; long == Err(LoadError::TooLong));
-        assert!(rt; endless == Err(LoadError::TooLong));
-        assert!(rt; missing == Err(LoadError::Failed));
-        assert!(rt; unnamed == Err(LoadError::Failed));
-        assert!(rt; unsaved.is_err());
-        assert_eq!(rt; counted, (0, 2));
-        assert_eq!(rt; (shelf.faults, shelf.longs), (3, 2));
-        Ok(())
     }
 }

@@ -15,8 +15,6 @@ mod output;
 mod steady_shelf;
 mod store;
 mod term_sink;
-#[cfg(test)]
-mod tests;
 
 pub use disk_shelf::DiskShelf;
 pub use fail_plan::Fail;

@@ -21,6 +21,13 @@ impl<R: Print + Drop> TermSink<R> {
     {
         TermSink { rt, faults: 0 }
     }
+
+    /// How many puts failed.
+    pub fn faults(&self) -> u64
+        ensures { (⟦<TermSink<R> as Sink>⟧.seen self.now).faults ≡ result }
+    {
+        self.faults
+    }
 }
 
 impl<R: Print + Drop> Sink for TermSink<R> {
@@ -46,53 +53,4 @@ fn write_out(rt: &impl Print, bytes: &[u8]) -> io::Result<()> {
     let mut out = io::writer(rt);
     out.write_all(bytes)?;
     out.flush()
-}
-
-#[cfg(test)]
-mod tests {
-    use super::*;
-    use std::cell::Cell;
-    use std::fmt::Display;
-    use std::io::{Error, ErrorKind};
-
-    /// An output of bounded length that knows how much it took.
-    #[derive(Drop)]
-    struct Tape {
-        len: Cell<usize>,
-        end: usize,
-    }
-
-    impl Print for Tape {
-        fn print<D: Display + Drop>(&self, _value: D) -> io::Result<()> {
-            Err(Error::from(ErrorKind::Unsupported))
-        }
-
-        fn println<D: Display + Drop>(&self, _value: D) -> io::Result<()> {
-            Err(Error::from(ErrorKind::Unsupported))
-        }
-
-        fn write_all(&self, bytes: &[u8]) -> io::Result<()> {
-            let len = self.len.get().saturating_add(bytes.len());
-            if len > self.end {
-                return Err(Error::from(ErrorKind::StorageFull));
-            }
-            self.len.set(len);
-            Ok(())
-        }
-    }
-
-    #[test]
-    fn term_sink_writes_all_and_counts_what_fails(rt: HostRuntime) {
-        let text = b"0 anna 2 ok\n1 anna 3 ok\n2 anna 4 changed 1\ndone 3\n";
-        assert!(rt; TermSink::new(&rt).put(text).is_ok());
-        let tape = Tape {
-            len: Cell::new(0),
-            end: 60,
-        };
-        let mut sink = TermSink::new(&tape);
-        assert!(rt; sink.put(text).is_ok());
-        assert_eq!(rt; (tape.len.get(), sink.faults), (50, 0));
-        assert!(rt; sink.put(text).is_err());
-        assert_eq!(rt; (tape.len.get(), sink.faults), (50, 1));
-    }
 }

@@ -3,4 +3,3 @@ pub mod OrderLemmas
 pub mod CarryingLemmas
 pub mod FoldLemmas
 pub mod StartLemmas
-pub mod TestLemmas

@@ -176,10 +176,19 @@ pub(crate) fn copied_by(
 fn copied_by_work(alloc: Global, canvas: &Canvas, work: &Work) -> Result<Option<Vec<u32>>, Memory>
     ensures { IfOk result (λ copied. option_map (λ cells. cells.items) copied ≡ (if is_copying_work work.now then Some canvas.now.cells else None)) }
 {
+    if !is_copying(work) {
+        return Ok(None);
+    }
+    let cells = Vec::from_slice(alloc, canvas.cells())?;
+    Ok(Some(cells))
+}
+
+/// Whether the clipboard is set by it.
+fn is_copying(work: &Work) -> bool
+    ensures { result ≡ is_copying_work work.now }
+{
     match work {
-        Work::Copy { .. } | Work::Cut { .. } => {
-            Ok(Some(Vec::from_slice(alloc, canvas.cells())?))
-        }
-        _ => Ok(None),
+        Work::Copy { .. } | Work::Cut { .. } => true,
+        _ => false,
     }
 }

@@ -14,22 +14,3 @@ mod running;
 pub use memory::Memory;
 pub use plain_error::PlainError;
 pub use running::plain_run;
-
-#[cfg(test)]
-mod acts;
-#[cfg(test)]
-mod clipboard_tests;
-#[cfg(test)]
-mod entity_tests;
-#[cfg(test)]
-mod fixtures;
-#[cfg(test)]
-mod ground;
-#[cfg(test)]
-mod history_tests;
-#[cfg(test)]
-mod limits;
-#[cfg(test)]
-mod player_tests;
-#[cfg(test)]
-mod tests;

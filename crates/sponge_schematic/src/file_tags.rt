@@ -31,7 +31,15 @@ fn count_tag(count: u32) -> Tag
     requires { count < 2 ^ 31 }
     ensures { result ≡ tags.Int (pos count) }
 {
-    Tag::Int(count as i32)
+    int_tag(&signed(count))
+}
+
+/// The same number with a sign.
+fn signed(count: u32) -> i32
+    requires { count < 2 ^ 31 }
+    ensures { result ≡ pos count }
+{
+    count as i32
 }
 
 /// A Short of the low 16 bits of a size.

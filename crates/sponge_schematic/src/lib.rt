@@ -31,6 +31,3 @@ pub use memory::Memory;
 pub use reading::read_world;
 pub use round_trip::files_round_trip;
 pub use writing::write_world;
-
-#[cfg(test)]
-mod tests;

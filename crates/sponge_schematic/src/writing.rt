@@ -2,7 +2,8 @@
 
 ghost use Rattle.std.specs.Prelude.{◌≡◌, ◌++◌, ◌∷◌, [], IfOk, OnOk, codes};
 ghost use Rattle.edit_terms.specs.Grid.{world_of};
-ghost use Rattle.sponge_schematic.specs.File.{own_tags, schematic_bytes};
+ghost use Rattle.block_entities.specs.Spreading.{block_entities};
+ghost use Rattle.sponge_schematic.specs.File.{own_tags, block_tags, states_once, block_data, entity_tags, schematic_bytes};
 ghost use Rattle.sponge_schematic.specs.Read.{IsWritable};
 
 use crate::carried::Carried;
@@ -20,13 +21,28 @@ fn own_tags(alloc: Global, carried: &Carried, last: &Grid) -> Result<Vec<Named>,
     requires { IsWritable carried.now (world_of last.now) }
     ensures { IfOk result (λ tags. tags.items ≡ own_tags carried.now (world_of last.now)) }
 {
+    let mut tags = box_tags(alloc, carried.data_version(), last.area())?;
+    tags.append(&mut grid_tags(alloc, last)?)?;
+    tags.append(&mut spread_tags(alloc, carried, last)?)?;
+    Ok(tags)
+}
+
+/// The tags of a world's blocks.
+fn grid_tags(alloc: Global, last: &Grid) -> Result<Vec<Named>, Memory>
+    ensures { IfOk result (λ tags. tags.items ≡ block_tags (states_once (world_of last.now)) (block_data (world_of last.now))) }
+{
+    let (palette, data) = number_blocks(alloc, last)?;
+    block_tags(alloc, &palette, data)
+}
+
+/// The tag of a world's block entities and of the loose ones, where it is written.
+fn spread_tags(alloc: Global, carried: &Carried, last: &Grid) -> Result<Vec<Named>, Memory>
+    requires { IsWritable carried.now (world_of last.now) }
+    ensures { IfOk result (λ tags. tags.items ≡ entity_tags (block_entities (world_of last.now) carried.now.loose carried.now.element)) }
+{
     carried.well_formed();
     let list = spread(alloc, last, carried.loose(), carried.element())?;
-    let (palette, data) = number_blocks(alloc, last)?;
-    let mut tags = box_tags(alloc, carried.data_version(), last.area())?;
-    tags.append(&mut block_tags(alloc, &palette, data)?)?;
-    tags.append(&mut entity_tags(alloc, list)?)?;
-    Ok(tags)
+    entity_tags(alloc, list)
 }
 
 /// How many bytes the names of a palette's entries have, and their numbers.

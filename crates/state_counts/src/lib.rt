@@ -11,6 +11,3 @@ mod tally;
 pub use counting::count_states;
 pub use laws::census_is_unique;
 pub use memory::Memory;
-
-#[cfg(test)]
-mod tests;

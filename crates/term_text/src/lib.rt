@@ -10,6 +10,3 @@ mod pieces;
 
 pub use part::{error_at, read_properties};
 pub use pieces::{Piece, Pieces, first_outside};
-
-#[cfg(test)]
-mod tests;

@@ -5,5 +5,4 @@ pub mod Renumbering
 pub mod Finding
 pub mod WritingLemmas
 pub mod EntityLemmas
-pub mod TestLemmas
 pub mod RestoringLemmas

@@ -19,8 +19,3 @@ pub use cell_change::CellChange;
 pub use growth::numbers_stay;
 pub use memory::Memory;
 pub use proposals::Proposals;
-
-#[cfg(test)]
-mod fixtures;
-#[cfg(test)]
-mod tests;
