@@ -1,13 +1,9 @@
-use Rattle.std.proofs.Common.{ℕ, ◌+◌, ap, ◌∙◌}
-use Rattle.edit_terms.specs.Frame.{common_count}
-use Rattle.command_plan.proofs.CutLemmas.{first_columns, last_columns}
+use Rattle.std.proofs.Common.{◌≡◌, ◌+◌, ℕ, ℤ, pos, ◌-ℤ◌, ◌≤ℤ◌, ◌<ℤ◌, rules, ap, ◌∙◌, sym, subst, arith}
+use Rattle.std.proofs.lemmas.Int.{ints}
+use Rattle.region_shapes.specs.declared.interval.Interval.{Interval}
+use Rattle.region_shapes.specs.Interval.{is_empty, size}
+use Rattle.region_shapes.proofs.ExtentLemmas.{size_of_empty, size_of_some}
+use Rattle.command_plan.specs.Cuts.{IsRunOf}
+use Rattle.command_plan.proofs.CutLemmas.{run_end}
 use Rattle.command_plan.proofs.cutting.cut_run.Goals as goal
 
-pub returns : goal.returns
-returns c a m b n first second =
-    let shared = c.in-Some.ensures.common a m b n first second in
-    record {
-      some = shared.some;
-      from = c.columns_to_first.ensures.value ∙ first_columns c.args.own.now c.in-Some.shared a b n (common_count a m b n) second shared;
-      to = ap (λ (k : ℕ). k + 1) c.columns_to_last.ensures.value ∙ last_columns c.args.own.now c.in-Some.shared a b n (common_count a m b n) second shared;
-    }
