@@ -1,5 +1,5 @@
 -- The list of a box's blocks: each block has one place in it, below the volume, and each place one block.
-use Rattle.std.proofs.Common.{◌≡◌, ℕ, ◌+◌, ◌*◌, ◌/◌, ◌%◌, ◌<◌, ◌≤◌, Bool, true, false, ◌&&◌, ℤ, pos, negsuc, ◌+ℤ◌, ◌-ℤ◌, ◌≤ℤ◌, refl, sym, ap, ◌∙◌, subst, arith, leb, ltb}
+use Rattle.std.proofs.Common.{◌≡◌, ℕ, ◌+◌, ◌*◌, ◌/◌, ◌%◌, ◌<◌, ◌≤◌, Bool, true, false, ◌&&◌, ℤ, pos, negsuc, ◌+ℤ◌, ◌-ℤ◌, ◌≤ℤ◌, ◌<ℤ◌, refl, sym, ap, ◌∙◌, subst, arith, leb, ltb}
 use Rattle.std.specs.Prelude.{nat_le, nat_abs, int_le, int_lt}
 use Rattle.std.proofs.lemmas.Bool.{leb-true, ltb-true}
 use Rattle.std.proofs.lemmas.Nat.{mul-add-lt, mul-lt, div-mul-add, mod-mul-add, div-add-mod', div_below, mod_below}
@@ -7,7 +7,7 @@ use Rattle.std.proofs.lemmas.Int.{ints}
 use Rattle.std.specs.Cmp.Derive.{both_true}
 use Rattle.std.proofs.Math.Nat.{div-div-eq-div-mul, mul_comm, mul_assoc}
 use Rattle.edit_terms.specs.declared.pos.Pos.{Pos}
-use Rattle.edit_terms.specs.Area.{Area, volume, is_from, is_within, holds, offset, index_of, position_of, is_size, is_sized, is_on_map, is_world_box, IsBlockAt}
+use Rattle.edit_terms.specs.Area.{Area, volume, is_from, is_within, holds, offset, index_of, position_of, is_size, is_sized, is_part, map_area, is_on_map, is_world_box, IsBlockAt}
 
 -- a block's place is below the volume
 pub place_below : (w h l x y z : ℕ) → x < w → y < h → z < l → x + z * w + y * (w * l) < w * h * l
@@ -41,7 +41,7 @@ size_limits n h = let parts = and_both (ltb 0 n) (leb n 65535) h in (ltb-true 0 
 
 pub limits : (a : Area) → is_world_box a ≡ true → IsLimited a
 limits a h =
-    let sized = (and_both (is_sized a) (is_on_map a) h).0 in
+    let sized = (and_both (is_sized a) (is_part a map_area) h).0 in
     let first = and_both (is_size a.width && is_size a.height && is_size a.length) (nat_le (volume a) 33554432) sized in
     let sides = and_both (is_size a.width && is_size a.height) (is_size a.length) first.0 in
     let two = and_both (is_size a.width) (is_size a.height) sides.0 in
@@ -57,14 +57,14 @@ in_range first count low size h =
     record { from = grind (arith, ints); to = grind (arith, ints) }
 
 -- where a world's box lies on the map
-pub record IsOnMap (a : Area) : Type 0 where
+pub record IsAreaOnMap (a : Area) : Type 0 where
   pub x : IsInRange (negsuc 33554431) 67108864 a.least.x a.width
   pub y : IsInRange (negsuc 2047) 4096 a.least.y a.height
   pub z : IsInRange (negsuc 33554431) 67108864 a.least.z a.length
 
-pub on_map : (a : Area) → is_world_box a ≡ true → IsOnMap a
+pub on_map : (a : Area) → is_world_box a ≡ true → IsAreaOnMap a
 on_map a h =
-    let spans = (and_both (is_sized a) (is_on_map a) h).1 in
+    let spans = (and_both (is_sized a) (is_part a map_area) h).1 in
     let first = and_both (is_within (negsuc 33554431) 67108864 a.least.x a.width && is_within (negsuc 2047) 4096 a.least.y a.height) (is_within (negsuc 33554431) 67108864 a.least.z a.length) spans in
     let two = and_both (is_within (negsuc 33554431) 67108864 a.least.x a.width) (is_within (negsuc 2047) 4096 a.least.y a.height) first.0 in
     record { x = in_range _ _ _ _ two.0; y = in_range _ _ _ _ two.1; z = in_range _ _ _ _ first.1 }
@@ -144,3 +144,26 @@ held_below a p h =
     let y = offset_of a.least.y a.height p.y two.1 in
     let z = offset_of a.least.z a.length p.z first.1 in
     place_below a.width a.height a.length (offset a.least.x p.x) (offset a.least.y p.y) (offset a.least.z p.z) x.below y.below z.below
+
+-- where a position of the map lies
+pub record IsPosOnMap (p : Pos) : Type 0 where
+  pub least_x : negsuc 33554431 ≤ℤ p.x
+  pub most_x : p.x <ℤ pos 33554432
+  pub least_y : negsuc 2047 ≤ℤ p.y
+  pub most_y : p.y <ℤ pos 2048
+  pub least_z : negsuc 33554431 ≤ℤ p.z
+  pub most_z : p.z <ℤ pos 33554432
+
+pub held_on_map : (p : Pos) → is_on_map p ≡ true → IsPosOnMap p
+held_on_map p h =
+    let first = and_both (is_from (negsuc 33554431) 67108864 p.x && is_from (negsuc 2047) 4096 p.y) (is_from (negsuc 33554431) 67108864 p.z) h in
+    let two = and_both (is_from (negsuc 33554431) 67108864 p.x) (is_from (negsuc 2047) 4096 p.y) first.0 in
+    let x = two.0 in let y = two.1 in let z = first.1 in
+    record {
+      least_x = grind (arith, ints);
+      most_x = grind (arith, ints);
+      least_y = grind (arith, ints);
+      most_y = grind (arith, ints);
+      least_z = grind (arith, ints);
+      most_z = grind (arith, ints);
+    }

@@ -43,11 +43,27 @@ position_of a index = record {
 abbrev pub is_within : ℤ → ℕ → ℤ → ℕ → Bool
 is_within first count low size = int_le first low && int_le (low +ℤ pos size) (first +ℤ pos count)
 
--- Worlds lie where x and z are -33,554,432 to 33,554,431 and y is -2,048 to 2,047.
-abbrev pub is_on_map : Area → Bool
-is_on_map a =
-    is_within (negsuc 33554431) 67108864 a.least.x a.width && is_within (negsuc 2047) 4096 a.least.y a.height
-    && is_within (negsuc 33554431) 67108864 a.least.z a.length
+-- each block of the part is one of the box
+abbrev pub is_part : Area → Area → Bool
+is_part part a =
+    is_within a.least.x a.width part.least.x part.width && is_within a.least.y a.height part.least.y part.height
+    && is_within a.least.z a.length part.least.z part.length
+
+-- The map, where worlds and builders' positions lie: x and z are -33,554,432 to 33,554,431, and y is -2,048 to 2,047.
+abbrev pub map_area : Area
+map_area = record {
+  least = record { x = negsuc 33554431; y = negsuc 2047; z = negsuc 33554431 };
+  width = 67108864;
+  height = 4096;
+  length = 67108864;
+}
+
+-- the position is on the map
+abbrev pub is_on_map : Pos → Bool
+is_on_map p = holds map_area p
+
+abbrev pub IsOnMap : Pos → Type 0
+IsOnMap p = is_on_map p ≡ true
 
 -- a size of 1 to 65,535 blocks, as the format's unsigned 16 bits give it
 abbrev pub is_size : ℕ → Bool
@@ -59,7 +75,7 @@ is_sized a = is_size a.width && is_size a.height && is_size a.length && nat_le (
 
 -- the box of a world: its sizes and volume within the limits, each of its blocks on the map
 abbrev pub is_world_box : Area → Bool
-is_world_box a = is_sized a && is_on_map a
+is_world_box a = is_sized a && is_part a map_area
 
 -- the column of 16 blocks that a coordinate lies in, rounded down
 abbrev pub sixteenth : ℤ → ℤ

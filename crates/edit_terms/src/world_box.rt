@@ -1,6 +1,6 @@
 ghost use Rattle.std.specs.Prelude.{◌≡◌, ◌+◌, ◌-◌, ◌*◌, ◌<◌, ◌≤◌, ◌^◌, ◌&&◌, true, false, pos, negsuc, ◌+ℤ◌, ◌-ℤ◌, ◌*ℤ◌, ◌≤ℤ◌, ◌<ℤ◌, MatchOption, IfSome, ◌/◌, ◌%◌, nat_le};
 ghost use Rattle.std.specs.Int.{int_div_euclid};
-ghost use Rattle.edit_terms.specs.Area.{Area, holds, is_from, is_within, is_on_map, is_size, is_sized, is_world_box, volume, offset, index_of, position_of, sixteenth, columns, chunks, chunk_of, IsBlockAt};
+ghost use Rattle.edit_terms.specs.Area.{Area, holds, is_from, is_within, is_part, map_area, is_size, is_sized, is_world_box, volume, offset, index_of, position_of, sixteenth, columns, chunks, chunk_of, IsBlockAt};
 
 use crate::axis::{
     column_x, column_z, columns_x, columns_z, is_from_x, is_from_y, is_from_z, is_within_x,
@@ -177,7 +177,7 @@ fn is_small(width: u32, height: u32, length: u32) -> bool
 }
 
 fn is_on_map(least: &Pos, width: u32, height: u32, length: u32) -> bool
-    ensures { result ≡ is_on_map (record { least = least.now; width = width; height = height; length = length }) }
+    ensures { result ≡ is_part (record { least = least.now; width = width; height = height; length = length }) map_area }
 {
     is_within_x(least, width) && is_within_y(least, height) && is_within_z(least, length)
 }

@@ -7,7 +7,7 @@ use Rattle.std.proofs.lemmas.Bool.Decides.{Decides-eqb}
 use Rattle.block_entities.proofs.Local.{not_true}
 use Rattle.std.proofs.lemmas.Int.{of_z-to_z}
 use Rattle.edit_terms.specs.declared.pos.Pos.{Pos}
-use Rattle.edit_terms.specs.Area.{Area, volume, is_sized, is_on_map, is_world_box}
+use Rattle.edit_terms.specs.Area.{Area, volume, is_sized, is_part, map_area, is_world_box}
 use Rattle.edit_terms.specs.World.{World}
 use Rattle.edit_terms.proofs.AreaLemmas.{and_both, limits, IsLimited}
 use Rattle.nbt_tags.specs.declared.tag.Tag.{Tag, out-Tag}
@@ -68,7 +68,7 @@ sizes_found row a limit w h l =
     ∙ ap (λ (r : Result (Unit {0}) WorldFault). r >>= λ (some : Unit {0}). few_blocks (sized a.width a.height a.length) >>= λ (few : _). Ok (sized a.width a.height a.length)) some
     ∙ ap (λ (r : Result (Unit {0}) WorldFault). r >>= λ (few : Unit {0}). Ok (sized a.width a.height a.length)) few
 
-area_found : (row : List Named) (a : Area) → sizes_of row ≡ Ok (sized a.width a.height a.length) → tag_named (codes "Offset") row ≡ Some (corner_tag a.least) → is_on_map a ≡ true → area_of row ≡ Ok a
+area_found : (row : List Named) (a : Area) → sizes_of row ≡ Ok (sized a.width a.height a.length) → tag_named (codes "Offset") row ≡ Some (corner_tag a.least) → is_part a map_area ≡ true → area_of row ≡ Ok a
 unfolding area_of
 area_found row a sizes corner map =
     ap (λ (r : Result Area WorldFault). r >>= λ (sizes : Area). corner_of (tag_named (codes "Offset") row) >>= λ (least : Pos). on_map (record sizes { least = least })) sizes
@@ -85,4 +85,4 @@ area_again carried w box =
     let narrow = limit.narrow in let low = limit.low in let short = limit.short in
     area_found row a
     (sizes_found row a limit (size_found fields.Width row a.width (omega (arith, narrow)) refl) (size_found fields.Height row a.height (omega (arith, low)) refl) (size_found fields.Length row a.length (omega (arith, short)) refl))
-    refl (and_both (is_sized a) (is_on_map a) box).1
+    refl (and_both (is_sized a) (is_part a map_area) box).1

@@ -3,7 +3,7 @@
 use Rattle.std.specs.Prelude.{ℕ, ◌==◌, ℤ, pos, ◌||◌, nat_lt, if◌then◌else◌, List, [], ◌∷◌, Option, Some, None, Result, Ok, Err, codes}
 use Rattle.std.specs.Ordering.{int_eq}
 use Rattle.edit_terms.specs.declared.pos.Pos.{Pos}
-use Rattle.edit_terms.specs.Area.{Area, volume, is_on_map}
+use Rattle.edit_terms.specs.Area.{Area, volume, is_part, map_area}
 use Rattle.nbt_tags.specs.declared.tag.Tag.{Tag, out-Tag}
 use Rattle.nbt_tags.specs.declared.tag.Tag.TheOpen as layer
 use Rattle.nbt_tags.specs.declared.tag.Named.{Named}
@@ -62,7 +62,7 @@ corner_of (Some tag) = corner_in (out-Tag tag)
 
 -- each block of the box is on the map
 abbrev pub on_map : Area → Result Area WorldFault
-on_map a = if is_on_map a then Ok a else Err faults.OutOfRange
+on_map a = if is_part a map_area then Ok a else Err faults.OutOfRange
 
 -- the box
 unfoldable pub area_of : List Named → Result Area WorldFault
