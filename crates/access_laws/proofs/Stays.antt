@@ -3,7 +3,7 @@
 -- A job changes only blocks of its boxes. An undo or a redo brings back changes of its edits' tickets, which are earlier:
 -- those lie in the edits' chunks, and these belong to the chunks that the undo or redo writes.
 use Rattle.std.proofs.Common.{◌≡◌, ℕ, zero, suc, ◌+◌, ◌<◌, ◌≤◌, eqb, Bool, true, false, cond, ◌&&◌, ◌||◌, List, [], ◌∷◌, length, map, take, drop, get_or, Option, Some, None, refl, sym, ap, ◌∙◌, subst, arith}
-use Rattle.std.specs.Prelude.{All, IfSome, IsTrue, reverse, flat_map}
+use Rattle.std.specs.Prelude.{All, IfSome, reverse, flat_map}
 use Rattle.std.specs.List.{range_with_len, list_any, find}
 use Rattle.std.specs.Option.{option_map_or}
 use Rattle.std.proofs.lemmas.Bool.{eq-eqb}
@@ -32,17 +32,17 @@ use Rattle.run_terms.specs.Order.{lines_of, turns_of, player_of, command_number,
 use Rattle.run_terms.specs.Change.{Change, content_of, change_at}
 use Rattle.run_terms.specs.Effect.{latest_change, effect_of, effect_at, world_after_step}
 use Rattle.run_terms.specs.Fold.{clipboard_of_edit, edits_taken, edits_taken_by, task_of, world_after, changes_of}
-use Rattle.run_terms.specs.Limits.{IsWithinLimits, is_command_within}
+use Rattle.run_terms.specs.Limits.{IsWithinLimits}
 use Rattle.run_terms.specs.Access.{is_chunk_of_box, chunks_of_boxes, boxes_written, boxes_written_by, with_edits_taken, chunks_written_by, chunks_written}
 use Rattle.run_terms.proofs.Lists.{All-reverse, All-filter_map-range}
 use Rattle.run_terms.proofs.ChangeLemmas.{find-changes_between}
 use Rattle.run_terms.proofs.Earlier.{step_is_of_earlier}
 use Rattle.run_terms.proofs.FoldLemmas.{follows_from_earlier, area-world_after, taken_earlier}
+use Rattle.run_terms.proofs.LimitLemmas.{lines_within}
 use Rattle.run_terms.proofs.Tickets.{turns_of-cons}
 use Rattle.access_laws.specs.Locality.{is_among, is_in_chunks, ChangesLieInChunksWritten}
 use Rattle.access_laws.proofs.Chunks.{any_of_range, chunk_below, some_box}
 use Rattle.access_laws.proofs.Writes.{contra, or_parts, HasPositions, IsBounded, IsOfItself, stays_outside}
-use Rattle.access_laws.proofs.Scripts.{lines_all}
 use Rattle.access_laws.proofs.Sessions.{IsSoundClip, IsSoundStep, TakesNone, step_is_sound}
 
 -- ---- lists
@@ -126,11 +126,8 @@ turns_of-take order player t =
 
 -- ---- the commands of a case within the limits
 
-pub lines_within : (case : Workload) → IsWithinLimits case → (player : ℕ) → All (λ line. IsTrue (is_command_within line.command)) (lines_of case.scripts player)
-lines_within case limits player = lines_all (λ line. IsTrue (is_command_within line.command)) case.scripts (λ k d within. (limits.each k d within).commands) player
-
 pub command_is_sound : (case : Workload) → IsWithinLimits case → (id : Source) → IsSoundStep id.player case.depth (lines_of case.scripts id.player) (step_of_command case id)
-command_is_sound case limits id = step_is_sound id.player case.depth (lines_of case.scripts id.player) (lines_within case limits id.player) id.step
+command_is_sound case limits id = step_is_sound id.player case.depth (lines_of case.scripts id.player) (lines_within case.scripts limits.each id.player) id.step
 
 -- ---- the fold
 

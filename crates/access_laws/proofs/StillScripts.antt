@@ -15,8 +15,9 @@ use Rattle.edit_terms.specs.declared.region.Region.TheVariants as region
 use Rattle.run_terms.specs.Workload.{Workload}
 use Rattle.run_terms.specs.Order.{lines_of, step_of_command}
 use Rattle.run_terms.specs.Session.{Session, selection_of, refusal_of, work_of, job_of, resolved_command, with_command, counted}
+use Rattle.run_terms.proofs.LimitLemmas.{lines_all, line_has}
 use Rattle.access_laws.specs.OrderFree.{is_free_of_noise, is_work_still, is_still, is_command_still, AreScriptsStill}
-use Rattle.access_laws.proofs.Scripts.{lines_all, line_has, session_at, kept_by_commands}
+use Rattle.access_laws.proofs.Scripts.{session_at, kept_by_commands}
 
 -- the session's global mask has no noise leaf
 abbrev IsStillSession : Session → Type 0

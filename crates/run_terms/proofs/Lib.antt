@@ -13,4 +13,6 @@ pub mod EntityExamples
 pub mod AccessExamples
 pub mod StackLemmas
 pub mod SessionLemmas
+pub mod LimitLemmas
+pub mod SessionLimitLemmas
 pub mod LimitExamples

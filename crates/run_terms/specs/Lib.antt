@@ -11,3 +11,4 @@ pub mod Undo
 pub mod Entities
 pub mod Access
 pub mod Limits
+pub mod SessionLimits

@@ -1,8 +1,7 @@
 -- A case within the limits: what a reader of scripts gives, and what a planner asks for.
-use Rattle.std.specs.Prelude.{ℕ, ◌≤◌, nat_le, Bool, true, ◌&&◌, length, All, IsTrue, negsuc, sum_by}
+use Rattle.std.specs.Prelude.{ℕ, ◌≤◌, nat_le, Bool, true, ◌&&◌, length, All, IsTrue, Option, sum_by}
 use Rattle.std.specs.List.{list_all}
 use Rattle.std.specs.Option.{option_map_or}
-use Rattle.edit_terms.specs.declared.pos.Pos.{Pos}
 use Rattle.edit_terms.specs.declared.mask.Leaf.{Leaf}
 use Rattle.edit_terms.specs.declared.mask.Leaf.TheVariants.{Noise}
 use Rattle.edit_terms.specs.declared.mask.Term.{Term}
@@ -12,17 +11,13 @@ use Rattle.edit_terms.specs.declared.pattern.Pattern.{Pattern}
 use Rattle.edit_terms.specs.declared.script.Command.{Command}
 use Rattle.edit_terms.specs.declared.script.Command.TheVariants.{Pos1, Pos2, Place, Sel, Block, Set, Walls, Faces, Replace, Sphere, Cyl, Stack, Move, Copy, Cut, Paste, Rotate, Flip, Gmask, Undo, Redo}
 use Rattle.edit_terms.specs.declared.script.Script.{Script}
-use Rattle.edit_terms.specs.Area.{is_from}
+use Rattle.edit_terms.specs.Area.{is_on_map}
 use Rattle.edit_terms.specs.Mask.{noise_leaves}
 use Rattle.run_terms.specs.Workload.{Workload}
 
 -- the number is one from low to high
 abbrev pub is_one_of : ℕ → ℕ → ℕ → Bool
 is_one_of low high n = nat_le low n && nat_le n high
-
--- x and z are -33,554,432 to 33,554,431, and y is -2,048 to 2,047
-abbrev pub is_position_within : Pos → Bool
-is_position_within p = is_from (negsuc 33554431) 67108864 p.x && is_from (negsuc 2047) 4096 p.y && is_from (negsuc 33554431) 67108864 p.z
 
 -- a count of copies, blocks or edits
 abbrev pub is_count : ℕ → Bool
@@ -44,16 +39,20 @@ abbrev pub is_mask_within : Mask → Bool
 is_mask_within mask =
     nat_le (sum_by (λ (t : Term). noise_leaves t.leaf) mask.terms) 4 && list_all (λ (t : Term). is_leaf_within t.leaf) mask.terms
 
+-- a mask that may be absent
+abbrev pub is_optional_mask_within : Option Mask → Bool
+is_optional_mask_within mask = option_map_or is_mask_within mask true
+
 -- 1 to 32 entries of weights 1 to 1,000,000
 abbrev pub is_pattern_within : Pattern → Bool
 is_pattern_within pattern = is_one_of 1 32 (length pattern.entries) && list_all (λ (e : Entry). is_one_of 1 1000000 e.weight) pattern.entries
 
 abbrev pub is_command_within : Command → Bool
-is_command_within (Pos1 at) = is_position_within at
-is_command_within (Pos2 at) = is_position_within at
-is_command_within (Place at) = is_position_within at
+is_command_within (Pos1 at) = is_on_map at
+is_command_within (Pos2 at) = is_on_map at
+is_command_within (Place at) = is_on_map at
 is_command_within (Sel kind) = true
-is_command_within (Block at state) = is_position_within at
+is_command_within (Block at state) = is_on_map at
 is_command_within (Set pattern) = is_pattern_within pattern
 is_command_within (Walls pattern) = is_pattern_within pattern
 is_command_within (Faces pattern) = is_pattern_within pattern
@@ -67,7 +66,7 @@ is_command_within Cut = true
 is_command_within (Paste skip_air) = true
 is_command_within (Rotate quarters) = is_one_of 1 3 quarters
 is_command_within (Flip to) = true
-is_command_within (Gmask mask) = option_map_or is_mask_within mask true
+is_command_within (Gmask mask) = is_optional_mask_within mask
 is_command_within (Undo count) = is_count count
 is_command_within (Redo count) = is_count count
 

@@ -5,14 +5,15 @@ use Rattle.std.specs.List.{range_with_len, flat_map}
 use Rattle.std.proofs.lemmas.Int.{ints}
 use Rattle.std.proofs.lemmas.List.{length-append}
 use Rattle.edit_terms.specs.declared.script.Command.{Command}
-use Rattle.run_terms.specs.Limits.{is_command_within, is_position_within, IsScriptWithin, IsWithinLimits}
+use Rattle.edit_terms.specs.Area.{is_on_map}
+use Rattle.run_terms.specs.Limits.{is_command_within, IsScriptWithin, IsWithinLimits}
 use Rattle.world_gen.specs.Drill.{corner, group_commands, drill_word, drill_commands, drill_script, drill_workload}
 use Rattle.world_gen.proofs.LineLemmas.{length-lines_from}
 use Rattle.world_gen.proofs.ScriptLemmas.{HoldsOfEach, script_holds, scripts_hold}
 
--- a corner is within the limits
-corner_within : (player a b c : ℕ) → player < 8 → is_position_within (corner player a b c) ≡ true
-corner_within player a b c below = grind (arith, ints)
+-- a corner is on the map
+corner_on_map : (player a b c : ℕ) → player < 8 → is_on_map (corner player a b c) ≡ true
+corner_on_map player a b c below = grind (arith, ints)
 
 -- a command within the limits
 abbrev IsWithin : Command → Type 0
@@ -21,8 +22,8 @@ IsWithin command = IsTrue (is_command_within command)
 -- each command of a group is
 each_within : (player : ℕ) → player < 8 → HoldsOfEach IsWithin player
 each_within player below = record {
-  first = λ a b c. corner_within player a b c below;
-  second = λ a b c. corner_within player a b c below;
+  first = λ a b c. corner_on_map player a b c below;
+  second = λ a b c. corner_on_map player a b c below;
   set = λ word. refl;
   walls = λ word. refl;
   faces = λ word. refl;

@@ -27,7 +27,8 @@ use Rattle.edit_terms.specs.Area.{Area}
 use Rattle.edit_terms.specs.Frame.{shape_frame, frame_of, frame_of_selection, size_along}
 use Rattle.run_terms.specs.Session.{Session, selection_from, selection_of, refusal_of, work_of, job_of, resolved_command, with_command, counted, step_of_line}
 use Rattle.run_terms.specs.Access.{boxes_read, boxes_read_by, boxes_written, boxes_written_by, moved_box, stacked_boxes}
-use Rattle.access_laws.proofs.Scripts.{line_has, session_at, kept_by_commands}
+use Rattle.run_terms.proofs.LimitLemmas.{line_has}
+use Rattle.access_laws.proofs.Scripts.{session_at, kept_by_commands}
 use Rattle.world_gen.specs.Drill.{drill_area}
 use Rattle.world_gen.proofs.ColumnLemmas.{IsOwnPosition, IsOwnBox, cuboid_own}
 
