@@ -1,5 +1,6 @@
 -- The copies of a stack lie side by side: together they are one box.
 use Rattle.std.proofs.Common.{◌≡◌, ℕ, zero, suc, ◌+◌, ◌-◌, ◌*◌, ◌/◌, ◌%◌, ◌<◌, ◌≤◌, Bool, true, ◌&&◌, List, ℤ, pos, ◌+ℤ◌, ◌-ℤ◌, ◌*ℤ◌, refl, sym, ◌∙◌, ap, arith}
+use Rattle.std.specs.Prelude.{nat_abs}
 use Rattle.std.specs.List.{list_any, range_with_len}
 use Rattle.std.specs.Cmp.Derive.{both_true}
 use Rattle.std.proofs.lemmas.Int.{ints}
@@ -133,14 +134,14 @@ onward_gap low v size far h = record { d = nat_abs (v -ℤ (low +ℤ pos size));
 backward_gap : (low v : ℤ) (far : ℕ) → is_from (low -ℤ pos far) far v ≡ true → IsBehind (λ d. low -ℤ pos 1 -ℤ pos d) v far
 backward_gap low v far h = record { d = nat_abs (low -ℤ pos 1 -ℤ v); place = grind (arith, ints); below = grind (arith, ints) }
 
-shifted : (low v : ℤ) (d : ℕ) → low -ℤ pos 1 -ℤ pos d ≡ v → v +ℤ pos 1 +ℤ pos d ≡ low
-shifted low v d e = omega (arith, ints, e)
+gap_end : (low v : ℤ) (d : ℕ) → low -ℤ pos 1 -ℤ pos d ≡ v → v +ℤ pos 1 +ℤ pos d ≡ low
+gap_end low v d e = omega (arith, ints, e)
 
 onward_copy : (low v : ℤ) (size count : ℕ) → is_from (low +ℤ pos size) (count * size) v ≡ true → IsCopyOf (λ i. is_from (low +ℤ pos (i * size)) size v) count
 onward_copy low v size count h = let gap = onward_gap low v size (count * size) h in onward_of low v size count gap.d (sym gap.place) gap.below
 
 backward_copy : (low v : ℤ) (size count : ℕ) → is_from (low -ℤ pos (count * size)) (count * size) v ≡ true → IsCopyOf (λ i. is_from (low -ℤ pos (i * size)) size v) count
-backward_copy low v size count h = let gap = backward_gap low v (count * size) h in backward_of low v size count gap.d (shifted low v gap.d gap.place) gap.below
+backward_copy low v size count h = let gap = backward_gap low v (count * size) h in backward_of low v size count gap.d (gap_end low v gap.d gap.place) gap.below
 
 -- ---- boxes
 

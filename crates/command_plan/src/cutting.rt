@@ -10,37 +10,52 @@ use crate::rectangle::{Floor, Rectangle, Run};
 use edit_terms::WorldBox;
 use region_shapes::{Extent, Interval, common, extent_of, is_empty};
 
-/// The column of 16 that a coordinate of the map lies in.
-fn sixteenth(coordinate: i64) -> i64
-    requires least { negsuc 33554431 ≤ℤ coordinate }
-    requires most { coordinate ≤ℤ pos 33554432 }
-    ensures value { result ≡ sixteenth coordinate }
-    ensures low { (result *ℤ pos 16) ≤ℤ coordinate }
-    ensures high { coordinate <ℤ (result *ℤ pos 16 +ℤ pos 16) }
+/// The column of 16 of an interval's first number.
+fn first_column(interval: &Interval) -> i64
+    requires least { negsuc 33554431 ≤ℤ interval.now.from }
+    requires most { interval.now.from ≤ℤ pos 33554432 }
+    ensures value { result ≡ sixteenth interval.now.from }
+    ensures low { (result *ℤ pos 16) ≤ℤ interval.now.from }
+    ensures high { interval.now.from <ℤ (result *ℤ pos 16 +ℤ pos 16) }
 {
-    coordinate.div_euclid(16)
+    interval.from.div_euclid(16)
 }
 
-/// How many columns lie between those of two coordinates of the map, with one of the two.
-fn columns_to(from: i64, to: i64) -> u32
-    requires least { negsuc 33554431 ≤ℤ from }
-    requires order { from ≤ℤ to }
-    requires most { to ≤ℤ pos 33554432 }
-    ensures value { result ≡ offset (sixteenth from) (sixteenth to) }
+/// The column of 16 of its last number.
+fn last_column(interval: &Interval) -> i64
+    requires least { negsuc 33554431 <ℤ interval.now.to }
+    requires most { interval.now.to ≤ℤ pos 33554432 }
+    ensures value { result ≡ sixteenth (interval.now.to -ℤ pos 1) }
+    ensures low { (result *ℤ pos 16) <ℤ interval.now.to }
+    ensures high { interval.now.to ≤ℤ (result *ℤ pos 16 +ℤ pos 16) }
+{
+    (interval.to - 1).div_euclid(16)
+}
+
+/// How many columns of a box's own begin before that of the first shared number.
+fn columns_to_first(own: &Interval, shared: &Interval) -> u32
+    requires map { IsPartOfMap own.now }
+    requires shared { IsPartOfMap shared.now }
+    requires some { shared.now.from <ℤ shared.now.to }
+    requires behind { own.now.from ≤ℤ shared.now.from }
+    ensures value { result ≡ offset (sixteenth own.now.from) (sixteenth shared.now.from) }
     ensures small { result ≤ 268435456 }
 {
-    let first = sixteenth(from);
-    (sixteenth(to) - first) as u32
+    let base = first_column(own);
+    (first_column(shared) - base) as u32
 }
 
-/// The last number of an interval that has some.
-fn last(interval: &Interval) -> i64
-    requires map { IsPartOfMap interval.now }
-    requires some { interval.now.from <ℤ interval.now.to }
-    ensures value { result ≡ interval.now.to -ℤ pos 1 }
-    ensures order { interval.now.from ≤ℤ result }
+/// How many begin before that of the last one.
+fn columns_to_last(own: &Interval, shared: &Interval) -> u32
+    requires map { IsPartOfMap own.now }
+    requires shared { IsPartOfMap shared.now }
+    requires some { shared.now.from <ℤ shared.now.to }
+    requires behind { own.now.from ≤ℤ shared.now.from }
+    ensures value { result ≡ offset (sixteenth own.now.from) (sixteenth (shared.now.to -ℤ pos 1)) }
+    ensures small { result ≤ 268435456 }
 {
-    interval.to - 1
+    let base = first_column(own);
+    (last_column(shared) - base) as u32
 }
 
 /// The columns of what an interval has in common with a box's own.
@@ -52,11 +67,9 @@ fn cut_run(interval: &Interval, own: &Interval) -> Option<Run>
     if is_empty(&shared) {
         return None;
     }
-    let first = columns_to(own.from, shared.from);
-    let end = columns_to(own.from, last(&shared)) + 1;
     Some(Run {
-        from: first,
-        to: end,
+        from: columns_to_first(own, &shared),
+        to: columns_to_last(own, &shared) + 1,
     })
 }
 

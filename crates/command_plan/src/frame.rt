@@ -21,15 +21,36 @@ pub(crate) fn single_extent(p: &Pos) -> Extent
     Extent { x, y, z }
 }
 
-/// The numbers from the least to the greatest of relative ones, at a place.
-fn placed(place: i32, least: i32, greatest: i32) -> Interval
-    ensures from { result.from ≡ place +ℤ least }
-    ensures to { result.to ≡ place +ℤ greatest +ℤ pos 1 }
+fn placed_x(place: &Pos, bounds: &RelativeBox) -> Interval
+    ensures from { result.from ≡ place.now.x +ℤ bounds.now.least.x }
+    ensures to { result.to ≡ place.now.x +ℤ bounds.now.greatest.x +ℤ pos 1 }
 {
-    let place = i64::from(place);
+    let x = i64::from(place.x);
     Interval {
-        from: place + i64::from(least),
-        to: place + i64::from(greatest) + 1,
+        from: x + i64::from(bounds.least.x),
+        to: x + i64::from(bounds.greatest.x) + 1,
+    }
+}
+
+fn placed_y(place: &Pos, bounds: &RelativeBox) -> Interval
+    ensures from { result.from ≡ place.now.y +ℤ bounds.now.least.y }
+    ensures to { result.to ≡ place.now.y +ℤ bounds.now.greatest.y +ℤ pos 1 }
+{
+    let y = i64::from(place.y);
+    Interval {
+        from: y + i64::from(bounds.least.y),
+        to: y + i64::from(bounds.greatest.y) + 1,
+    }
+}
+
+fn placed_z(place: &Pos, bounds: &RelativeBox) -> Interval
+    ensures from { result.from ≡ place.now.z +ℤ bounds.now.least.z }
+    ensures to { result.to ≡ place.now.z +ℤ bounds.now.greatest.z +ℤ pos 1 }
+{
+    let z = i64::from(place.z);
+    Interval {
+        from: z + i64::from(bounds.least.z),
+        to: z + i64::from(bounds.greatest.z) + 1,
     }
 }
 
@@ -37,8 +58,9 @@ fn placed(place: i32, least: i32, greatest: i32) -> Interval
 pub(crate) fn placed_extent(place: &Pos, bounds: &RelativeBox) -> Extent
     ensures { (box : Area) → bounds.now ≡ corners box → result ≡ extent_of (record box { least = placed_at place.now box.least }) }
 {
-    let x = placed(place.x, bounds.least.x, bounds.greatest.x);
-    let y = placed(place.y, bounds.least.y, bounds.greatest.y);
-    let z = placed(place.z, bounds.least.z, bounds.greatest.z);
-    Extent { x, y, z }
+    Extent {
+        x: placed_x(place, bounds),
+        y: placed_y(place, bounds),
+        z: placed_z(place, bounds),
+    }
 }

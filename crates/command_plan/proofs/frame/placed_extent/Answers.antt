@@ -8,6 +8,6 @@ pub returns : goal.returns
 returns c = λ box is.
     let p = c.args.place.now in
     same_extent _ _
-    (same_interval _ _ (c.placed-x.ensures.from ∙ ap (λ (b : RelativeBox). p.x +ℤ b.least.x) is) (c.placed-x.ensures.to ∙ placed_end p.x box.least.x _ box.width (ap (λ (b : RelativeBox). b.greatest.x) is)))
-    (same_interval _ _ (c.placed-y.ensures.from ∙ ap (λ (b : RelativeBox). p.y +ℤ b.least.y) is) (c.placed-y.ensures.to ∙ placed_end p.y box.least.y _ box.height (ap (λ (b : RelativeBox). b.greatest.y) is)))
-    (same_interval _ _ (c.placed-z.ensures.from ∙ ap (λ (b : RelativeBox). p.z +ℤ b.least.z) is) (c.placed-z.ensures.to ∙ placed_end p.z box.least.z _ box.length (ap (λ (b : RelativeBox). b.greatest.z) is)))
+    (same_interval _ _ (c.placed_x.ensures.from ∙ ap (λ (b : RelativeBox). p.x +ℤ b.least.x) is) (c.placed_x.ensures.to ∙ placed_end p.x box.least.x _ box.width (ap (λ (b : RelativeBox). b.greatest.x) is)))
+    (same_interval _ _ (c.placed_y.ensures.from ∙ ap (λ (b : RelativeBox). p.y +ℤ b.least.y) is) (c.placed_y.ensures.to ∙ placed_end p.y box.least.y _ box.height (ap (λ (b : RelativeBox). b.greatest.y) is)))
+    (same_interval _ _ (c.placed_z.ensures.from ∙ ap (λ (b : RelativeBox). p.z +ℤ b.least.z) is) (c.placed_z.ensures.to ∙ placed_end p.z box.least.z _ box.length (ap (λ (b : RelativeBox). b.greatest.z) is)))
