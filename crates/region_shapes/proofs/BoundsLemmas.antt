@@ -63,6 +63,7 @@ none_in_common f a h = no_block (common_extent (extent_of f) (extent_of a)) (is_
     flat w h l (inl e) = ap (λ (n : ℕ). n * h * l) e ∙ omega arith
     flat w h l (inr (inl e)) = ap (λ (n : ℕ). w * n * l) e ∙ omega arith
     flat w h l (inr (inr e)) = ap (λ (n : ℕ). w * h * n) e ∙ omega arith
+
     no_block : (e : Extent) (x y z : Bool) → is_empty e.x ≡ x → is_empty e.y ≡ y → is_empty e.z ≡ z → (is_empty e.x || is_empty e.y || is_empty e.z) ≡ true → volume (box_of e) ≡ 0
     no_block e true y z ex ey ez h = flat (size e.x) (size e.y) (size e.z) (inl (size_of_empty e.x ex))
     no_block e false true z ex ey ez h = flat (size e.x) (size e.y) (size e.z) (inr (inl (size_of_empty e.y ey)))

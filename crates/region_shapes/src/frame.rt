@@ -95,10 +95,6 @@ pub fn frame_of(region: &Region) -> Extent
             radius,
             height,
             ..
-        } => disc(
-            centre,
-            u64::from(*radius),
-            numbers_from(centre.y, *height),
-        ),
+        } => disc(centre, u64::from(*radius), numbers_from(centre.y, *height)),
     }
 }
