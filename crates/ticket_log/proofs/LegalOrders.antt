@@ -11,6 +11,8 @@ use mathlib.Core.Logic.{dite}
 use native.Mathlib.Decide.{ℕ_discrete}
 use Rattle.edit_terms.specs.declared.script.Case.{Case}
 use Rattle.edit_terms.specs.declared.script.Script.{Script}
+use Rattle.run_terms.specs.Limits.{IsWithinLimits}
+use Rattle.run_terms.specs.Workload.{workload_of}
 use Rattle.run_terms.specs.Order.{turns_of, lines_of, IsLegalOrder}
 use Rattle.ticket_log.specs.Orders.{IsLoggable}
 
@@ -58,6 +60,14 @@ lines_of-within case loggable player = elim (slice_get_cases case.scripts player
       subst (λ s. length (option_map_or (λ (script : Script). script.lines) s []) ≤ 10000) (sym at.2) here
   | inr past ↦ subst (λ s. length (option_map_or (λ (script : Script). script.lines) s []) ≤ 10000) (sym past.1) (omega arith)
 ]
+
+-- a log has room for each case within the limits
+pub loggable_within : (case : Case) → IsWithinLimits (workload_of case) → IsLoggable case
+loggable_within case within = record {
+  some = grind (arith, nat_tests, within.scripts);
+  scripts = grind (arith, nat_tests, within.scripts);
+  lines = λ k d there. (within.each k d there).lines;
+}
 
 -- how many entries are of the first n players
 abbrev entries_below : ℕ → List ℕ → ℕ

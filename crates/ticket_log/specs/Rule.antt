@@ -3,11 +3,11 @@ use Rattle.std.specs.Prelude.{◌≡◌, ℕ, ◌<◌, true, List, [], ◌∷◌
 use mathlib.Core.List.{IsPrefix}
 use mathlib.Core.Option.{some}
 use lib.ListN.{get_elem?}
-use Rattle.atomic_table.specs.Table.{State, Me, Step}
+use Rattle.atomic_table.specs.Table.{State, Step}
 use Rattle.edit_terms.specs.declared.script.Case.{Case}
 use Rattle.run_terms.specs.Order.{turns_of, IsLegalOrder}
 use Rattle.ticket_log.specs.declared.view.View.{View}
-use Rattle.ticket_log.specs.Views.{after_draw, settled}
+use Rattle.ticket_log.specs.Views.{Held, after_draw, settled}
 
 -- each order of a list of orders is a prefix of this one
 abbrev pub ArePrefixes : List (List ℕ) → List ℕ → Type 0
@@ -21,8 +21,8 @@ pub record Fits (order : List ℕ) (drawer handle : ℕ) (v : View) : Type 0 whe
   pub seen : IsPrefix v.order order
   pub older : ArePrefixes v.older v.order
 
--- There is one legal order. One handle draws and no other does, every handle fits the order, and each word is the number of
--- its player's entries.
+-- There is one legal order. Each word is the number of its player's entries, one handle draws and no other does, and
+-- every handle fits the order.
 pub record Kept (case : Case) (s : State (Unit {0}) View) : Type 0 where
   pub order : List ℕ
   pub legal : IsLegalOrder case.scripts order
@@ -33,11 +33,11 @@ pub record Kept (case : Case) (s : State (Unit {0}) View) : Type 0 where
   pub views : (handle : ℕ) (v : View) → get_elem? s.views handle ≡ some v → Fits order drawer handle v
 
 -- what a draw tells: the word's player is appended, and the number found is how often it stood there
-pub record Drew (step : Step (Unit {0})) (before : Me (Unit {0}) View) (found : ℕ) (after : Me (Unit {0}) View) : Type 0 where
+pub record Drew (step : Step (Unit {0})) (before : Held) (found : ℕ) (after : Held) : Type 0 where
   pub view : after ≡ (after_draw step.word before.0, before.1)
   pub count : found ≡ turns_of step.word before.0.order
 
 -- what a load tells: the older orders are prefixes of the order seen, and are dropped
-pub record Learned (step : Step (Unit {0})) (before : Me (Unit {0}) View) (found : ℕ) (after : Me (Unit {0}) View) : Type 0 where
+pub record Learned (step : Step (Unit {0})) (before : Held) (found : ℕ) (after : Held) : Type 0 where
   pub view : after ≡ (settled before.0, before.1)
   pub prefixes : ArePrefixes before.0.older before.0.order

@@ -1,7 +1,12 @@
 -- What a handle of the log knows, its view, and how the four kinds of step change it.
 use Rattle.std.specs.Prelude.{ℕ, Bool, false, if◌then◌else◌, List, [], ◌∷◌, ◌++◌}
+use Rattle.atomic_table.specs.Table.{Me}
 use Rattle.ticket_log.specs.declared.view.View.{View}
 use Rattle.ticket_log.specs.Orders.{longer}
+
+-- a handle's view beside the slots of the table that it holds, of which there are none
+abbrev pub Held : Type 0
+Held = Me (Unit {0}) View
 
 -- a handle that has seen this order
 abbrev pub view_of : Bool → List ℕ → View

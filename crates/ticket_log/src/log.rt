@@ -6,7 +6,7 @@ ghost use Rattle.ticket_log.specs.Views.{settled, joined};
 ghost use Rattle.ticket_log.specs.Handles.{IsHandle};
 
 use crate::name::RunName;
-use crate::rule::{Both, Copy, Draw, Handle, Load, Words};
+use crate::rule::{Draw, Handle, Load, Merge, Snapshot, Words};
 use std::marker::PhantomData;
 
 /// The log of one run under its name, which all threads share by reference.
@@ -40,10 +40,11 @@ impl<N: RunName> Log<N> {
         ensures copy { IsHandle N.table false result.table_id result.me }
         ensures order { result.me.0.order ≡ handle.old.me.0.order }
     {
-        self.table.shared.split_seat::<Copy>(handle)
+        self.table.shared.split_seat::<Snapshot>(handle)
     }
 
-    // Join and load: a handle takes in what another has seen, and learns that both had seen prefixes of what it then has seen.
+    // Join and load: a handle takes in what another has seen, and learns that both had seen prefixes of what it
+    // then has seen.
     pub(crate) fn take_in(&self, handle: &mut Handle, other: Handle)
         requires own { handle.old.table_id ≡ N.table }
         requires other { IsHandle N.table false other.table_id other.me }
@@ -53,7 +54,7 @@ impl<N: RunName> Log<N> {
         ensures taken { IsPrefix other.me.0.order handle.new.me.0.order }
     {
         let shared = &self.table.shared;
-        shared.join_seat::<Both>(handle, other);
+        shared.join_seat::<Merge>(handle, other);
         shared.load::<Load>(handle, 0);
     }
 }

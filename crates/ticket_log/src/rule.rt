@@ -42,9 +42,9 @@ impl Play<(), View> for Load {
 }
 
 /// A further handle that has seen as much, and doesn't draw.
-pub struct Copy;
+pub struct Snapshot;
 
-impl Split<View> for Copy {
+impl Split<View> for Snapshot {
     ghost use Rattle.ticket_log.specs.Views.{copied};
 
     ghost left = { λ v. v };
@@ -53,9 +53,9 @@ impl Split<View> for Copy {
 }
 
 /// Of two handles one that has seen what both have.
-pub struct Both;
+pub struct Merge;
 
-impl Join<View> for Both {
+impl Join<View> for Merge {
     ghost use Rattle.ticket_log.specs.Views.{joined, spent};
 
     ghost both = { joined };
