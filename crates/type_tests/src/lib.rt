@@ -1,5 +1,5 @@
 //! Tests of what a line of a program of cases can't say: that threads may share a type, that copies and shared forms
-//! are equal to their originals, that laws return, and what the outside gives and takes.
+//! are equal to their originals, that laws return, what two threads see of one order, and what the outside gives and takes.
 #![tactic(auto)]
 
 #[cfg(test)]
@@ -8,6 +8,8 @@ mod equal;
 mod laws;
 #[cfg(test)]
 mod lists;
+#[cfg(test)]
+mod order_log;
 #[cfg(test)]
 mod outside;
 #[cfg(test)]

@@ -12,7 +12,7 @@ loop-index-preserved c =
     let a = c.args.area.now in
     let e = c.in_ok-push.ensures in
     let place = block.place in
-    let d : Proposed = record { at = at; before = c.in-Some-2.old.now; after = c.in-Some-2.new.now } in
+    let d : Proposed = record { at = at; before = c.in-Some-both_at.old.now; after = c.in-Some-both_at.new.now } in
     let here = c.loop-index.invariant.next at block.held (omega (arith, place)) in
     record {
       area = e.area ∙ c.loop-index.invariant.area;

@@ -1,0 +1,4 @@
+pub mod Prefixes
+pub mod LegalOrders
+pub mod Steps
+pub mod Appending

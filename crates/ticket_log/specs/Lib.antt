@@ -1,0 +1,5 @@
+pub mod Orders
+pub mod Identity
+pub mod Views
+pub mod Rule
+pub mod Handles
