@@ -7,7 +7,8 @@ use crate::cuts::split_once;
 use crate::fault::StateFault;
 use crate::listing::read_behind;
 use crate::sorting::with_properties;
-use edit_terms::{BlockName, BlockState, Name, Properties, states_and_faults};
+use edit_terms::laws::states_and_faults;
+use edit_terms::{BlockName, BlockState, Name, Properties};
 use memory::Memory;
 use std::alloc::Global;
 

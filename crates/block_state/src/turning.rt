@@ -8,7 +8,8 @@ use crate::pairs::{copied, name_of};
 use crate::restating::restated;
 use crate::sorting::with_properties;
 use crate::turned_words::{turned_key, turned_value};
-use edit_terms::{BlockState, Name, Properties, Transform, turned_states_are_states};
+use edit_terms::laws::turned_states_are_states;
+use edit_terms::{BlockState, Name, Properties, Transform};
 use memory::Memory;
 use std::alloc::Global;
 

@@ -3,7 +3,8 @@ ghost use Rattle.std.specs.Prelude.{◌≡◌, ◌++◌, ◌∷◌, Ok, IfOk, On
 ghost use Rattle.std.specs.List.{flat_map};
 ghost use Rattle.edit_terms.specs.StateText.{comma, spelled_property, written_properties, written_state, state_reading};
 
-use edit_terms::{BlockState, Name, states_and_faults, written_form};
+use edit_terms::laws::{states_and_faults, written_form};
+use edit_terms::{BlockState, Name};
 use memory::Memory;
 use std::alloc::Global;
 

@@ -5,7 +5,8 @@ ghost use Rattle.edit_terms.specs.Transform.{turned_position, source_position};
 ghost use Rattle.clipboard_transform.specs.Reach.{IsTurnable};
 
 use crate::turning::{flipped_x, flipped_y, turned};
-use edit_terms::{Pos, Transform, inverse_transform};
+use edit_terms::laws::inverse_transform;
+use edit_terms::{Pos, Transform};
 
 /// Where a transform sends a relative position. Each coordinate is above -2^31.
 pub fn place(t: &Transform, relative: Pos) -> Pos

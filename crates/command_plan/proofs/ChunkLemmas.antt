@@ -19,8 +19,9 @@ use Rattle.edit_terms.proofs.RegionLemmas.{in_common_box}
 use Rattle.run_terms.specs.Access.{is_chunk_of_box}
 use Rattle.command_plan.specs.declared.rectangle.Run.{Run}
 use Rattle.command_plan.specs.Rectangles.{is_among, covers, floor_of, IsRunWithin, IsInside}
+use Rattle.region_shapes.specs.Interval.{common, numbers_from}
 use Rattle.command_plan.specs.Cuts.{IsRunOf, IsCover, IsApart}
-use Rattle.command_plan.proofs.ColumnLemmas.{block_in_column, column_of_block, columns_within}
+use Rattle.edit_terms.proofs.ColumnLemmas.{block_in_column, column_of_block, columns_within}
 
 -- ---- tests
 
@@ -129,6 +130,10 @@ chunk_of_block area box chunk is =
 
 -- ---- the rectangle of a box
 
+-- the columns of what the m numbers from a on have in common with the n numbers from b on
+abbrev pub IsRunAlong : Run → ℤ → ℕ → ℤ → ℕ → Type 0
+IsRunAlong r a m b n = IsRunOf r (common (numbers_from a m) (numbers_from b n)) (numbers_from b n)
+
 among : (r : Run) (from size k : ℕ) → r.from ≡ from → r.to ≡ from + size → from ≤ k → k < from + size → is_among r k ≡ true
 among r from size k f t low high = grind (arith, nat_tests)
 
@@ -148,20 +153,20 @@ max_behind a b = grind (arith, ints)
 max_within : (a : ℤ) (m : ℕ) (b : ℤ) (n : ℕ) → 0 < common_count a m b n → (int_max a b +ℤ pos (common_count a m b n)) ≤ℤ (b +ℤ pos n)
 max_within a m b n some = grind (arith, ints)
 
-run_within : (r : Run) (a : ℤ) (m : ℕ) (b : ℤ) (n : ℕ) → IsRunOf r a m b n → IsRunWithin r (columns b n)
+run_within : (r : Run) (a : ℤ) (m : ℕ) (b : ℤ) (n : ℕ) → IsRunAlong r a m b n → IsRunWithin r (columns b n)
 run_within r a m b n is =
     let fits = columns_within b n (int_max a b) (common_count a m b n) is.some (record { from = max_behind a b; to = max_within a m b n is.some }) in
     let from = is.from in let to = is.to in
     record { order = omega arith; within = omega arith }
 
-pub cover_inside : (area box : Area) (x z : Run) → IsRunOf x box.least.x box.width area.least.x area.width → IsRunOf z box.least.z box.length area.least.z area.length
+pub cover_inside : (area box : Area) (x z : Run) → IsRunAlong x box.least.x box.width area.least.x area.width → IsRunAlong z box.least.z box.length area.least.z area.length
     → IsInside (floor_of area) (record { x = x; z = z })
 cover_inside area box x z is_x is_z = record {
   x = run_within x box.least.x box.width area.least.x area.width is_x;
   z = run_within z box.least.z box.length area.least.z area.length is_z;
 }
 
-block_covered : (area box : Area) (x z : Run) → IsRunOf x box.least.x box.width area.least.x area.width → IsRunOf z box.least.z box.length area.least.z area.length
+block_covered : (area box : Area) (x z : Run) → IsRunAlong x box.least.x box.width area.least.x area.width → IsRunAlong z box.least.z box.length area.least.z area.length
     → (chunk : ℕ) → IsBlockIn area box chunk → covers (columns area.least.x area.width) (record { x = x; z = z }) chunk ≡ true
 block_covered area box x z is_x is_z chunk is =
     let shared = common_box box area in
@@ -182,7 +187,7 @@ block_covered area box x z is_x is_z chunk is =
     (ap (is_among x) column ∙ among x _ _ ox is_x.from is_x.to cx.from cx.to)
     (ap (is_among z) row ∙ among z _ _ oz is_z.from is_z.to cz.from cz.to)
 
-covered_block : (area box : Area) (x z : Run) → IsRunOf x box.least.x box.width area.least.x area.width → IsRunOf z box.least.z box.length area.least.z area.length
+covered_block : (area box : Area) (x z : Run) → IsRunAlong x box.least.x box.width area.least.x area.width → IsRunAlong z box.least.z box.length area.least.z area.length
     → 0 < common_count box.least.y box.height area.least.y area.height → (chunk : ℕ) → covers (columns area.least.x area.width) (record { x = x; z = z }) chunk ≡ true → IsBlockIn area box chunk
 covered_block area box x z is_x is_z high chunk h =
     let shared = common_box box area in
@@ -211,8 +216,8 @@ or_none : (b : Bool) → (b || false) ≡ b
 or_none true = refl
 or_none false = refl
 
-pub cover : (area box : Area) (x z : Run) → IsRunOf x box.least.x box.width area.least.x area.width → 0 < common_count box.least.y box.height area.least.y area.height
-    → IsRunOf z box.least.z box.length area.least.z area.length → IsCover area (box ∷ []) (record { x = x; z = z })
+pub cover : (area box : Area) (x z : Run) → IsRunAlong x box.least.x box.width area.least.x area.width → 0 < common_count box.least.y box.height area.least.y area.height
+    → IsRunAlong z box.least.z box.length area.least.z area.length → IsCover area (box ∷ []) (record { x = x; z = z })
 cover area box x z is_x high is_z = record {
   inside = cover_inside area box x z is_x is_z;
   exact = λ chunk. or_none (is_chunk_of_box area chunk box) ∙ same_tests (is_chunk_of_box area chunk box) (covers (columns area.least.x area.width) (record { x = x; z = z }) chunk)

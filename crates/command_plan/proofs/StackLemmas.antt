@@ -1,5 +1,5 @@
 -- The copies of a stack lie side by side: together they are one box.
-use Rattle.std.proofs.Common.{◌≡◌, ℕ, zero, suc, ◌+◌, ◌-◌, ◌*◌, ◌/◌, ◌%◌, ◌<◌, ◌≤◌, Bool, true, ◌&&◌, List, ℤ, pos, ◌+ℤ◌, ◌-ℤ◌, ◌*ℤ◌, sym, ◌∙◌, ap, arith}
+use Rattle.std.proofs.Common.{◌≡◌, ℕ, zero, suc, ◌+◌, ◌-◌, ◌*◌, ◌/◌, ◌%◌, ◌<◌, ◌≤◌, Bool, true, ◌&&◌, List, ℤ, pos, ◌+ℤ◌, ◌-ℤ◌, ◌*ℤ◌, refl, sym, ◌∙◌, ap, arith}
 use Rattle.std.specs.Prelude.{nat_abs}
 use Rattle.std.specs.List.{list_any, range_with_len}
 use Rattle.std.specs.Cmp.Derive.{both_true}
@@ -12,23 +12,48 @@ use Rattle.edit_terms.specs.declared.pos.Pos.{Pos}
 use Rattle.edit_terms.specs.Area.{Area, is_from, holds}
 use Rattle.edit_terms.specs.Frame.{size_along}
 use Rattle.run_terms.specs.Access.{is_chunk_of_box, moved_box, stacked_boxes}
-use Rattle.command_plan.specs.declared.extent.Extent.{Extent}
-use Rattle.command_plan.specs.Extents.{IsExtent}
-use Rattle.command_plan.specs.Stacks.{stack_hull}
+use Rattle.region_shapes.specs.Interval.{numbers_from, shifted}
+use Rattle.region_shapes.specs.Extents.{extent_of}
+use Rattle.region_shapes.proofs.ExtentLemmas.{same_interval, same_extent, size_of_numbers}
+use Rattle.command_plan.specs.Stacks.{stack_hull, moved_extent, copies_behind, copies_before, stacked_extent}
 use Rattle.command_plan.proofs.ChunkLemmas.{same_tests, found_in, any_found, any_of_map, holds_parts, block_of_chunk, chunk_of_block}
 
--- ---- along one axis
+-- ---- extents of boxes
 
-pub copies_size : (e : Extent) (low : ℤ) (size count : ℕ) → IsExtent e low size → count * nat_abs (e.to -ℤ e.from) ≡ count * size
-copies_size e low size count is =
-    let f = is.from in let t = is.to in
-    rw (f, t) (ap (λ (n : ℕ). count * n) (counted low size))
+onward_numbers : (low : ℤ) (size by : ℕ) → shifted (pos by) (numbers_from low size) ≡ numbers_from (low +ℤ pos by) size
+onward_numbers low size by = same_interval _ _ refl (omega (arith, ints))
+
+backward_numbers : (low : ℤ) (size by : ℕ) → shifted (pos 0 -ℤ pos by) (numbers_from low size) ≡ numbers_from (low -ℤ pos by) size
+backward_numbers low size by = same_interval _ _ (omega (arith, ints)) (omega (arith, ints))
+
+pub moved_is : (to : Direction) (count : ℕ) (box : Area) → moved_extent to count (extent_of box) ≡ extent_of (moved_box to count box)
+moved_is North count box = same_extent _ _ refl refl (backward_numbers box.least.z box.length count)
+moved_is South count box = same_extent _ _ refl refl (onward_numbers box.least.z box.length count)
+moved_is East count box = same_extent _ _ (onward_numbers box.least.x box.width count) refl refl
+moved_is West count box = same_extent _ _ (backward_numbers box.least.x box.width count) refl refl
+moved_is Up count box = same_extent _ _ refl (onward_numbers box.least.y box.height count) refl
+moved_is Down count box = same_extent _ _ refl (backward_numbers box.least.y box.height count) refl
+
+behind_numbers : (low : ℤ) (n count : ℕ) → copies_behind count (numbers_from low n) ≡ numbers_from (low +ℤ pos n) (count * n)
+behind_numbers low n count = ap (λ (m : ℕ). numbers_from (low +ℤ pos n) (count * m)) (size_of_numbers low n)
+
+before_numbers : (low : ℤ) (n count : ℕ) → copies_before count (numbers_from low n) ≡ numbers_from (low -ℤ pos (count * n)) (count * n)
+before_numbers low n count =
+    ap (λ (m : ℕ). record { from = low -ℤ pos (count * m); to = low }) (size_of_numbers low n)
+    ∙ same_interval _ _ refl (back_again low (count * n))
   where
-    counted : (low : ℤ) (size : ℕ) → nat_abs ((low +ℤ pos size) -ℤ low) ≡ size
-    counted low size = grind (arith, ints)
+    back_again : (low : ℤ) (far : ℕ) → low ≡ (low -ℤ pos far) +ℤ pos far
+    back_again low far = omega (arith, ints)
 
-pub back_again : (low : ℤ) (far : ℕ) → low ≡ (low -ℤ pos far) +ℤ pos far
-back_again low far = omega (arith, ints)
+pub stacked_is : (to : Direction) (count : ℕ) (box : Area) → stacked_extent to count (extent_of box) ≡ extent_of (stack_hull count to box)
+stacked_is North count box = same_extent _ _ refl refl (before_numbers box.least.z box.length count)
+stacked_is South count box = same_extent _ _ refl refl (behind_numbers box.least.z box.length count)
+stacked_is East count box = same_extent _ _ (behind_numbers box.least.x box.width count) refl refl
+stacked_is West count box = same_extent _ _ (before_numbers box.least.x box.width count) refl refl
+stacked_is Up count box = same_extent _ _ refl (behind_numbers box.least.y box.height count) refl
+stacked_is Down count box = same_extent _ _ refl (before_numbers box.least.y box.height count) refl
+
+-- ---- along one axis
 
 -- a copy of a stack
 record IsCopy (count i : ℕ) : Type 0 where
@@ -109,14 +134,14 @@ onward_gap low v size far h = record { d = nat_abs (v -ℤ (low +ℤ pos size));
 backward_gap : (low v : ℤ) (far : ℕ) → is_from (low -ℤ pos far) far v ≡ true → IsBehind (λ d. low -ℤ pos 1 -ℤ pos d) v far
 backward_gap low v far h = record { d = nat_abs (low -ℤ pos 1 -ℤ v); place = grind (arith, ints); below = grind (arith, ints) }
 
-shifted : (low v : ℤ) (d : ℕ) → low -ℤ pos 1 -ℤ pos d ≡ v → v +ℤ pos 1 +ℤ pos d ≡ low
-shifted low v d e = omega (arith, ints, e)
+gap_end : (low v : ℤ) (d : ℕ) → low -ℤ pos 1 -ℤ pos d ≡ v → v +ℤ pos 1 +ℤ pos d ≡ low
+gap_end low v d e = omega (arith, ints, e)
 
 onward_copy : (low v : ℤ) (size count : ℕ) → is_from (low +ℤ pos size) (count * size) v ≡ true → IsCopyOf (λ i. is_from (low +ℤ pos (i * size)) size v) count
 onward_copy low v size count h = let gap = onward_gap low v size (count * size) h in onward_of low v size count gap.d (sym gap.place) gap.below
 
 backward_copy : (low v : ℤ) (size count : ℕ) → is_from (low -ℤ pos (count * size)) (count * size) v ≡ true → IsCopyOf (λ i. is_from (low -ℤ pos (i * size)) size v) count
-backward_copy low v size count h = let gap = backward_gap low v (count * size) h in backward_of low v size count gap.d (shifted low v gap.d gap.place) gap.below
+backward_copy low v size count h = let gap = backward_gap low v (count * size) h in backward_of low v size count gap.d (gap_end low v gap.d gap.place) gap.below
 
 -- ---- boxes
 

@@ -1,4 +1,3 @@
-pub mod Extents
 pub mod Rectangles
 pub mod Cuts
 pub mod Stacks

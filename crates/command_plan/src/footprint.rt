@@ -3,22 +3,22 @@
 ghost use Rattle.std.specs.Prelude.{◌≡◌, ◌≤◌, ◌∷◌, [], IfSome, Some, None};
 ghost use Rattle.std.specs.Option.{option_and_then};
 ghost use Rattle.edit_terms.specs.Area.{Area};
-ghost use Rattle.edit_terms.specs.Clipboard.{clip_box_of, placed_at};
+ghost use Rattle.clipboard_transform.specs.Bounds.{IsOnMap};
+ghost use Rattle.edit_terms.specs.Clipboard.{clip_box_of};
 ghost use Rattle.edit_terms.specs.Frame.{frame_of, frame_of_selection};
-ghost use Rattle.clipboard_transform.specs.Bounds.{IsOnMap, corners};
 ghost use Rattle.run_terms.specs.Access.{moved_box, stacked_boxes, single_box, pasted_boxes};
 ghost use Rattle.command_plan.specs.Cuts.{IsCutOf, IsSpreadOf};
-ghost use Rattle.command_plan.specs.Extents.{IsFrame};
 ghost use Rattle.command_plan.specs.Footprints.{IsFootprint, IsWorkFootprint};
 ghost use Rattle.command_plan.specs.Within.{IsStepWithin, IsSpecWithin};
 
 use crate::cutting::cut;
-use crate::frame::{Frame, frame_of, frame_of_selection, placed_frame, single_frame};
+use crate::frame::{placed_extent, single_extent};
 use crate::rectangle::{Rectangle, Spread};
 use crate::spread::{nothing, of_one, of_two};
 use crate::stacking::{moved, stacked};
 use clipboard_transform::clip_box;
 use edit_terms::{Clip, Direction, Pos, Region, Selection, Spec, Step, Work, WorldBox};
+use region_shapes::{frame_of, frame_of_selection};
 
 /// The chunks that a command reads and those that it writes, without those of edits that it takes.
 #[derive(Clone, Copy, Debug, Drop)]
@@ -67,7 +67,7 @@ fn copies(from: &Selection, to: Direction, count: u32, area: &WorldBox) -> Sprea
 fn single(at: &Pos, area: &WorldBox) -> Spread
     ensures { IsSpreadOf area.now (single_box at.now ∷ []) result }
 {
-    of_one(cut(&single_frame(at), area))
+    of_one(cut(&single_extent(at), area))
 }
 
 fn pasted_clip(place: &Pos, clip: &Clip, area: &WorldBox) -> Spread
@@ -76,7 +76,7 @@ fn pasted_clip(place: &Pos, clip: &Clip, area: &WorldBox) -> Spread
 {
     match clip_box(clip, area) {
         None => nothing(),
-        Some(bounds) => of_one(cut(&placed_frame(place, &bounds), area)),
+        Some(bounds) => of_one(cut(&placed_extent(place, &bounds), area)),
     }
 }
 

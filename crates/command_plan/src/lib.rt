@@ -6,7 +6,6 @@
 
 mod course;
 mod cutting;
-mod extent;
 mod footprint;
 mod frame;
 mod laws;
@@ -16,9 +15,7 @@ mod plan;
 mod plan_fault;
 mod planned;
 mod players;
-mod reach;
 mod rectangle;
-mod shared;
 mod spread;
 mod stacking;
 mod writes;

@@ -1,156 +1,125 @@
-//! Boxes that are moved or stacked.
+//! Extents that are moved or stacked.
 
-ghost use Rattle.std.specs.Prelude.{◌≡◌, ℕ, ℤ, ◌*◌, ◌≤◌, pos, ◌+ℤ◌, ◌-ℤ◌, nat_abs};
-ghost use Rattle.edit_terms.specs.Area.{Area};
-ghost use Rattle.run_terms.specs.Access.{moved_box};
-ghost use Rattle.command_plan.specs.Extents.{IsExtent, IsNear, IsFrame, IsFrameNear};
-ghost use Rattle.command_plan.specs.Stacks.{stack_hull};
+ghost use Rattle.std.specs.Prelude.{◌≡◌, ◌*◌, ◌≤◌};
+ghost use Rattle.region_shapes.specs.Interval.{size, IsNear};
+ghost use Rattle.region_shapes.specs.Extents.{IsExtentNear};
+ghost use Rattle.command_plan.specs.Stacks.{moved_extent, copies_behind, copies_before, stacked_extent};
 
-use crate::extent::Extent;
-use crate::frame::Frame;
 use edit_terms::Direction;
+use region_shapes::{Extent, Interval, shifted};
 
-fn onward(e: &Extent, count: u32) -> Extent
-    requires { IsNear e.now }
-    ensures { (low : ℤ) (size : ℕ) → IsExtent e.now low size → IsExtent result (low +ℤ pos count) size }
+/// An extent so many blocks on in a direction.
+pub(crate) fn moved(extent: &Extent, to: Direction, count: u32) -> Extent
+    requires { IsExtentNear extent.now }
+    ensures { result ≡ moved_extent to count extent.now }
 {
-    Extent {
-        from: e.from + i64::from(count),
-        to: e.to + i64::from(count),
-    }
-}
-
-fn backward(e: &Extent, count: u32) -> Extent
-    requires { IsNear e.now }
-    ensures { (low : ℤ) (size : ℕ) → IsExtent e.now low size → IsExtent result (low -ℤ pos count) size }
-{
-    Extent {
-        from: e.from - i64::from(count),
-        to: e.to - i64::from(count),
-    }
-}
-
-/// A box so many blocks on in a direction.
-pub(crate) fn moved(frame: &Frame, to: Direction, count: u32) -> Frame
-    requires { IsFrameNear frame.now }
-    ensures { (box : Area) → IsFrame frame.now box → IsFrame result (moved_box to count box) }
-{
-    let Frame { x, y, z } = *frame;
+    let by = i64::from(count);
     match to {
-        Direction::North => Frame {
-            x,
-            y,
-            z: backward(&z, count),
+        Direction::North => Extent {
+            z: shifted(&extent.z, -by),
+            ..*extent
         },
-        Direction::South => Frame {
-            x,
-            y,
-            z: onward(&z, count),
+        Direction::South => Extent {
+            z: shifted(&extent.z, by),
+            ..*extent
         },
-        Direction::East => Frame {
-            x: onward(&x, count),
-            y,
-            z,
+        Direction::East => Extent {
+            x: shifted(&extent.x, by),
+            ..*extent
         },
-        Direction::West => Frame {
-            x: backward(&x, count),
-            y,
-            z,
+        Direction::West => Extent {
+            x: shifted(&extent.x, -by),
+            ..*extent
         },
-        Direction::Up => Frame {
-            x,
-            y: onward(&y, count),
-            z,
+        Direction::Up => Extent {
+            y: shifted(&extent.y, by),
+            ..*extent
         },
-        Direction::Down => Frame {
-            x,
-            y: backward(&y, count),
-            z,
+        Direction::Down => Extent {
+            y: shifted(&extent.y, -by),
+            ..*extent
         },
     }
 }
 
-fn size_of(e: &Extent) -> u64
-    requires { IsNear e.now }
-    ensures value { result ≡ nat_abs (e.now.to -ℤ e.now.from) }
+/// How many numbers an interval has.
+fn size(interval: &Interval) -> u64
+    requires { IsNear interval.now }
+    ensures value { result ≡ size interval.now }
     ensures small { result ≤ 137438953472 }
 {
-    (e.to - e.from) as u64
+    if interval.to < interval.from {
+        return 0;
+    }
+    (interval.to - interval.from) as u64
 }
 
-/// How many coordinates so many copies have.
-fn size_of_copies(e: &Extent, count: u32) -> u64
-    requires near { IsNear e.now }
+/// How many numbers so many copies have.
+fn size_of_copies(interval: &Interval, count: u32) -> u64
+    requires near { IsNear interval.now }
     requires few { count ≤ 1000 }
-    ensures value { result ≡ count * nat_abs (e.now.to -ℤ e.now.from) }
+    ensures value { result ≡ count * size interval.now }
     ensures small { result ≤ 137438953472000 }
 {
-    u64::from(count) * size_of(e)
+    u64::from(count) * size(interval)
 }
 
 /// What so many copies fill that lie one behind the other.
-fn stacked_onward(e: &Extent, count: u32) -> Extent
-    requires near { IsNear e.now }
+fn copies_behind(interval: &Interval, count: u32) -> Interval
+    requires near { IsNear interval.now }
     requires few { count ≤ 1000 }
-    ensures { (low : ℤ) (size : ℕ) → IsExtent e.now low size → IsExtent result (low +ℤ pos size) (count * size) }
+    ensures { result ≡ copies_behind count interval.now }
 {
-    let far = size_of_copies(e, count);
-    Extent {
-        from: e.to,
-        to: e.to + far as i64,
+    let far = size_of_copies(interval, count);
+    Interval {
+        from: interval.to,
+        to: interval.to + far as i64,
     }
 }
 
 /// What so many copies fill that lie one before the other.
-fn stacked_backward(e: &Extent, count: u32) -> Extent
-    requires near { IsNear e.now }
+fn copies_before(interval: &Interval, count: u32) -> Interval
+    requires near { IsNear interval.now }
     requires few { count ≤ 1000 }
-    ensures { (low : ℤ) (size : ℕ) → IsExtent e.now low size → IsExtent result (low -ℤ pos (count * size)) (count * size) }
+    ensures { result ≡ copies_before count interval.now }
 {
-    let far = size_of_copies(e, count);
-    Extent {
-        from: e.from - far as i64,
-        to: e.from,
+    let far = size_of_copies(interval, count);
+    Interval {
+        from: interval.from - far as i64,
+        to: interval.from,
     }
 }
 
 /// What the copies of a stack fill: they lie side by side.
-pub(crate) fn stacked(frame: &Frame, to: Direction, count: u32) -> Frame
-    requires near { IsFrameNear frame.now }
+pub(crate) fn stacked(extent: &Extent, to: Direction, count: u32) -> Extent
+    requires near { IsExtentNear extent.now }
     requires few { count ≤ 1000 }
-    ensures { (box : Area) → IsFrame frame.now box → IsFrame result (stack_hull count to box) }
+    ensures { result ≡ stacked_extent to count extent.now }
 {
-    let Frame { x, y, z } = *frame;
     match to {
-        Direction::North => Frame {
-            x,
-            y,
-            z: stacked_backward(&z, count),
+        Direction::North => Extent {
+            z: copies_before(&extent.z, count),
+            ..*extent
         },
-        Direction::South => Frame {
-            x,
-            y,
-            z: stacked_onward(&z, count),
+        Direction::South => Extent {
+            z: copies_behind(&extent.z, count),
+            ..*extent
         },
-        Direction::East => Frame {
-            x: stacked_onward(&x, count),
-            y,
-            z,
+        Direction::East => Extent {
+            x: copies_behind(&extent.x, count),
+            ..*extent
         },
-        Direction::West => Frame {
-            x: stacked_backward(&x, count),
-            y,
-            z,
+        Direction::West => Extent {
+            x: copies_before(&extent.x, count),
+            ..*extent
         },
-        Direction::Up => Frame {
-            x,
-            y: stacked_onward(&y, count),
-            z,
+        Direction::Up => Extent {
+            y: copies_behind(&extent.y, count),
+            ..*extent
         },
-        Direction::Down => Frame {
-            x,
-            y: stacked_backward(&y, count),
-            z,
+        Direction::Down => Extent {
+            y: copies_before(&extent.y, count),
+            ..*extent
         },
     }
 }

@@ -1,4 +1,5 @@
 pub mod AreaLemmas
+pub mod ColumnLemmas
 pub mod WorldLemmas
 pub mod PatternLemmas
 pub mod Examples

@@ -5,25 +5,43 @@ ghost use Rattle.edit_terms.specs.Area.{is_from, is_within, offset, sixteenth, c
 
 use crate::pos::Pos;
 
-pub(crate) fn is_within_x(least: &Pos, width: u32) -> bool
-    ensures { result ≡ is_within (negsuc 33554431) 67108864 least.now.x width }
+/// The coordinate x behind so many from a position on.
+fn end_x(least: &Pos, width: u32) -> i64
+    ensures { result ≡ least.now.x +ℤ pos width }
 {
-    let low = i64::from(least.x);
-    -33_554_432 <= low && low + i64::from(width) <= 33_554_432
+    i64::from(least.x) + i64::from(width)
 }
 
-pub(crate) fn is_within_y(least: &Pos, height: u32) -> bool
-    ensures { result ≡ is_within (negsuc 2047) 4096 least.now.y height }
+pub(crate) fn is_within_x(own: &Pos, whole: u32, least: &Pos, width: u32) -> bool
+    ensures { result ≡ is_within own.now.x whole least.now.x width }
 {
-    let low = i64::from(least.y);
-    -2_048 <= low && low + i64::from(height) <= 2_048
+    own.x <= least.x && end_x(least, width) <= end_x(own, whole)
 }
 
-pub(crate) fn is_within_z(least: &Pos, length: u32) -> bool
-    ensures { result ≡ is_within (negsuc 33554431) 67108864 least.now.z length }
+/// The coordinate y behind so many from a position on.
+fn end_y(least: &Pos, height: u32) -> i64
+    ensures { result ≡ least.now.y +ℤ pos height }
 {
-    let low = i64::from(least.z);
-    -33_554_432 <= low && low + i64::from(length) <= 33_554_432
+    i64::from(least.y) + i64::from(height)
+}
+
+pub(crate) fn is_within_y(own: &Pos, whole: u32, least: &Pos, height: u32) -> bool
+    ensures { result ≡ is_within own.now.y whole least.now.y height }
+{
+    own.y <= least.y && end_y(least, height) <= end_y(own, whole)
+}
+
+/// The coordinate z behind so many from a position on.
+fn end_z(least: &Pos, length: u32) -> i64
+    ensures { result ≡ least.now.z +ℤ pos length }
+{
+    i64::from(least.z) + i64::from(length)
+}
+
+pub(crate) fn is_within_z(own: &Pos, whole: u32, least: &Pos, length: u32) -> bool
+    ensures { result ≡ is_within own.now.z whole least.now.z length }
+{
+    own.z <= least.z && end_z(least, length) <= end_z(own, whole)
 }
 
 pub(crate) fn is_from_x(least: &Pos, width: u32, p: &Pos) -> bool

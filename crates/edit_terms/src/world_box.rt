@@ -6,7 +6,7 @@ use crate::axis::{
     column_x, column_z, columns_x, columns_z, is_from_x, is_from_y, is_from_z, is_within_x,
     is_within_y, is_within_z, moved, offset_x, offset_y, offset_z,
 };
-use crate::pos::Pos;
+use crate::pos::{Pos, least_on_map};
 use std::marker::Model;
 
 /// The box of a world: 1 to 33,554,432 blocks, each size at most 65,535, all of it on the map (x and z
@@ -105,6 +105,15 @@ impl WorldBox {
             && is_from_z(&self.least, self.length, &p)
     }
 
+    /// True exactly where each block of this box is one of the other.
+    pub fn is_part_of(&self, whole: &WorldBox) -> bool
+        ensures { result ≡ is_part self.now whole.now }
+    {
+        is_within_x(&whole.least, whole.width, &self.least, self.width)
+            && is_within_y(&whole.least, whole.height, &self.least, self.height)
+            && is_within_z(&whole.least, whole.length, &self.least, self.length)
+    }
+
     /// The place of a block in the list of the box's blocks: x runs fastest, then z, then y. None
     /// exactly outside.
     pub fn index_of(&self, p: Pos) -> Option<u32>
@@ -137,7 +146,23 @@ impl WorldBox {
         Some(moved(&self.least, east, up, south))
     }
 
-    /// How many chunks have a block of the box. A chunk is a column of 16 by 16 blocks by x and z.
+    /// How many chunks a row of chunks along x has. A chunk is a column of 16 by 16 blocks by x and z.
+    pub fn chunk_columns(&self) -> u32
+        ensures value { result ≡ columns self.now.least.x self.now.width }
+        ensures few { result ≤ 4097 }
+    {
+        columns_x(&self.least, self.width)
+    }
+
+    /// How many rows of chunks the box has, one behind the other along z.
+    pub fn chunk_rows(&self) -> u32
+        ensures value { result ≡ columns self.now.least.z self.now.length }
+        ensures few { result ≤ 4097 }
+    {
+        columns_z(&self.least, self.length)
+    }
+
+    /// How many chunks have a block of the box.
     pub fn chunks(&self) -> u32
         ensures { result ≡ chunks self.now }
     {
@@ -179,5 +204,8 @@ fn is_small(width: u32, height: u32, length: u32) -> bool
 fn is_on_map(least: &Pos, width: u32, height: u32, length: u32) -> bool
     ensures { result ≡ is_part (record { least = least.now; width = width; height = height; length = length }) map_area }
 {
-    is_within_x(least, width) && is_within_y(least, height) && is_within_z(least, length)
+    let map = least_on_map();
+    is_within_x(&map, 67_108_864, least, width)
+        && is_within_y(&map, 4_096, least, height)
+        && is_within_z(&map, 67_108_864, least, length)
 }

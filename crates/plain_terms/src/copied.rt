@@ -11,7 +11,8 @@ use crate::on_map::block_of;
 use crate::place::Place;
 use crate::selection::is_selected;
 use clipboard_transform::source;
-use edit_terms::{Clip, Content, Pos, WorldBox, inverse_transform};
+use edit_terms::laws::inverse_transform;
+use edit_terms::{Clip, Content, Pos, WorldBox};
 
 /// The content of the selected block of the world that a clipboard has at a relative position, before it
 /// is turned. None exactly where there is none.

@@ -1,19 +1,19 @@
 -- What a world's box has in common with another box is a world's box, where it isn't empty.
-use Rattle.std.proofs.Common.{◌≡◌, ℕ, ◌*◌, ◌<◌, ◌≤◌, true, false, ℤ, pos, negsuc, ◌+ℤ◌, ◌-ℤ◌, ◌≤ℤ◌, ◌<ℤ◌, sym, ◌∙◌, ap, subst, arith}
+use Rattle.std.proofs.Common.{◌≡◌, ℕ, ◌*◌, ◌<◌, ◌≤◌, ◌⊎◌, inl, inr, Bool, true, false, ◌||◌, refl, ℤ, pos, negsuc, ◌+ℤ◌, ◌-ℤ◌, ◌≤ℤ◌, ◌<ℤ◌, sym, ◌∙◌, ap, subst, arith}
 use Rattle.std.specs.Prelude.{nat_le, nat_abs, Option, None, Some, MatchOption}
 use Rattle.std.specs.Int.{int_min, int_max}
 use Rattle.std.specs.Cmp.Derive.{both_true}
 use Rattle.std.proofs.lemmas.Bool.Decides.{nat_tests}
 use Rattle.std.proofs.lemmas.Int.{ints}
 use Rattle.std.proofs.Math.Nat.{mul-le-mul}
-use Rattle.edit_terms.specs.Area.{Area, volume, is_size, is_within, is_world_box}
+use Rattle.edit_terms.specs.Area.{Area, volume, is_size, is_within, is_part, is_world_box}
 use Rattle.edit_terms.specs.Frame.{count_up_to, common_count, common_box}
 use Rattle.edit_terms.proofs.AreaLemmas.{limits, on_map}
+use Rattle.region_shapes.specs.declared.interval.Interval.{Interval}
 use Rattle.region_shapes.specs.declared.extent.Extent.{Extent}
-use Rattle.region_shapes.specs.declared.shared.Shared.{Shared}
-use Rattle.region_shapes.specs.Chunks.{is_part}
-use Rattle.region_shapes.specs.Extents.{IsExtent}
-use Rattle.region_shapes.specs.SharedExtents.{IsShared}
+use Rattle.region_shapes.specs.Interval.{is_empty, size}
+use Rattle.region_shapes.proofs.ExtentLemmas.{size_of_empty}
+use Rattle.region_shapes.specs.Extents.{extent_of, box_of, is_without, common_extent}
 
 few_common : (a : ℤ) (m : ℕ) (b : ℤ) (n : ℕ) → common_count a m b n ≤ n
 few_common a m b n = grind (arith, ints)
@@ -53,32 +53,21 @@ common_box-world f a h wide high long =
     (both_true (common_within (negsuc 33554431) 67108864 f.least.x f.width a.least.x a.width place.x.from place.x.to wide) (common_within (negsuc 2047) 4096 f.least.y f.height a.least.y a.height place.y.from place.y.to high))
     (common_within (negsuc 33554431) 67108864 f.least.z f.length a.least.z a.length place.z.from place.z.to long))
 
--- ---- by the ends of coordinates
+-- ---- by intervals
 
-pub common_none : (e f : Extent) (a : ℤ) (m : ℕ) (b : ℤ) (n : ℕ) → IsExtent e a m → IsExtent f b n → int_min e.to f.to ≤ℤ int_max e.from f.from → common_count a m b n ≡ 0
-common_none e f a m b n he hf none =
-    let e1 = he.from in let e2 = he.to in let f1 = hf.from in let f2 = hf.to in
-    let h : (int_min (a +ℤ pos m) (b +ℤ pos n)) ≤ℤ (int_max a b) = simp (e1, e2, f1, f2) at none in
-    empty_count (int_max a b) (int_min (a +ℤ pos m) (b +ℤ pos n)) h
+-- where two boxes have nothing in common, the box of it has no block
+pub none_in_common : (f a : Area) → is_without (common_extent (extent_of f) (extent_of a)) ≡ true → volume (common_box f a) ≡ 0
+none_in_common f a h = no_block (common_extent (extent_of f) (extent_of a)) (is_empty (common_extent (extent_of f) (extent_of a)).x) (is_empty (common_extent (extent_of f) (extent_of a)).y) (is_empty (common_extent (extent_of f) (extent_of a)).z) refl refl refl h
   where
-    empty_count : (u v : ℤ) → v ≤ℤ u → count_up_to (v -ℤ u) ≡ 0
-    empty_count u v h = grind (arith, ints)
-
-pub common_some : (e f : Extent) (a : ℤ) (m : ℕ) (b : ℤ) (n : ℕ) → IsExtent e a m → IsExtent f b n → int_max e.from f.from <ℤ int_min e.to f.to → int_min e.to f.to ≡ int_max a b +ℤ pos (common_count a m b n)
-common_some e f a m b n he hf some =
-    let e1 = he.from in let e2 = he.to in let f1 = hf.from in let f2 = hf.to in
-    let h : (int_max a b) <ℤ (int_min (a +ℤ pos m) (b +ℤ pos n)) = simp (e1, e2, f1, f2) at some in
-    rw (e2, f2) (full_count (int_max a b) (int_min (a +ℤ pos m) (b +ℤ pos n)) h)
-  where
-    full_count : (u v : ℤ) → u <ℤ v → v ≡ u +ℤ pos (count_up_to (v -ℤ u))
-    full_count u v h = grind (arith, ints)
-
--- how many numbers are shared
-pub shared_count : (s : Shared) (low : ℤ) (size : ℕ) → IsShared s low size → nat_abs (s.to -ℤ s.from) ≡ size
-shared_count s low size is = let f = is.from in let t = is.to in rw (f, t) (counted low size)
-  where
-    counted : (low : ℤ) (size : ℕ) → nat_abs (low +ℤ pos size -ℤ low) ≡ size
-    counted low size = grind (arith, ints)
+    flat : (w h l : ℕ) → (w ≡ 0) ⊎ ((h ≡ 0) ⊎ (l ≡ 0)) → w * h * l ≡ 0
+    flat w h l (inl e) = ap (λ (n : ℕ). n * h * l) e ∙ omega arith
+    flat w h l (inr (inl e)) = ap (λ (n : ℕ). w * n * l) e ∙ omega arith
+    flat w h l (inr (inr e)) = ap (λ (n : ℕ). w * h * n) e ∙ omega arith
+    no_block : (e : Extent) (x y z : Bool) → is_empty e.x ≡ x → is_empty e.y ≡ y → is_empty e.z ≡ z → (is_empty e.x || is_empty e.y || is_empty e.z) ≡ true → volume (box_of e) ≡ 0
+    no_block e true y z ex ey ez h = flat (size e.x) (size e.y) (size e.z) (inl (size_of_empty e.x ex))
+    no_block e false true z ex ey ez h = flat (size e.x) (size e.y) (size e.z) (inr (inl (size_of_empty e.y ey)))
+    no_block e false false true ex ey ez h = flat (size e.x) (size e.y) (size e.z) (inr (inr (size_of_empty e.z ez)))
+    no_block e false false false ex ey ez h = let no : (false || false || false) ≡ true = subst (λ (b : Bool). (b || false || false) ≡ true) ex (subst (λ (b : Bool). (is_empty e.x || b || false) ≡ true) ey (subst (λ (b : Bool). (is_empty e.x || is_empty e.y || b) ≡ true) ez h)) in absurd cc
 
 -- a box that is made or refused is made where it is a world's
 pub made_box : (o : Option Area) (made whole : Area) → MatchOption o (is_world_box made ≡ false) (λ b. b ≡ made) → made ≡ whole → is_world_box whole ≡ true

@@ -1,7 +1,4 @@
 -- The list of chunks by rows rises, and has exactly the chunks with a block of the part.
---
--- A column of 16 from the part's first to its last has a block of the part: the greater one of the part's first and the
--- column's.
 use Rattle.std.proofs.Common.{◌≡◌, ℕ, zero, suc, ◌+◌, ◌-◌, ◌*◌, ◌<◌, ◌≤◌, ◌⊎◌, inl, inr, true, ◌&&◌, List, [], ◌∷◌, ◌++◌, get_or, ℤ, pos, negsuc, ◌+ℤ◌, ◌-ℤ◌, ◌*ℤ◌, ◌≤ℤ◌, ◌<ℤ◌, refl, sym, ◌∙◌, ap, subst, arith, append_assoc}
 use Rattle.std.specs.Prelude.{nat_le, nat_abs, int_le}
 use Rattle.std.specs.Int.{int_max}
@@ -13,9 +10,10 @@ use Rattle.std.proofs.lemmas.List.{append-nil}
 use Rattle.std.proofs.lemmas.List.FromFn.{length-range_with_len, get_or-range_with_len}
 use Rattle.std.proofs.lemmas.List.Elements.{All-nil, All-append, Contains-append_left, Contains-append_right}
 use Rattle.edit_terms.specs.declared.pos.Pos.{Pos}
-use Rattle.edit_terms.specs.Area.{Area, is_from, is_within, holds, offset, sixteenth, columns, chunk_of, is_world_box}
-use Rattle.edit_terms.proofs.AreaLemmas.{and_both, limits, on_map}
-use Rattle.region_shapes.specs.Chunks.{is_part, is_rising_from, IsTouched, columns_before_x, columns_before_z, chunk_rows, chunk_list}
+use Rattle.edit_terms.specs.Area.{Area, is_from, is_within, is_part, holds, offset, sixteenth, columns, chunk_of, is_world_box}
+use Rattle.edit_terms.proofs.AreaLemmas.{and_both, limits}
+use Rattle.edit_terms.proofs.ColumnLemmas.{IsWithinAxis, within_axis, block_in_column, column_of_block, columns_within, few_columns}
+use Rattle.region_shapes.specs.Chunks.{is_rising_from, IsTouched, columns_before, chunk_rows, chunk_list}
 
 -- ---- lists of consecutive numbers
 
@@ -78,105 +76,7 @@ in_rows first count step row (suc rows) x z a b c d =
     same_or_later : (row z : ℕ) → row ≤ z → (z ≡ row) ⊎ (row + 1 ≤ z)
     same_or_later row z c = grind (arith)
 
--- ---- columns of 16
-
-pub sixteenth_low : (v : ℤ) → (sixteenth v *ℤ pos 16) ≤ℤ v
-sixteenth_low (pos a) = grind (arith, ints)
-sixteenth_low (negsuc a) = grind (arith, ints)
-
-pub sixteenth_high : (v : ℤ) → v <ℤ (sixteenth v *ℤ pos 16 +ℤ pos 16)
-sixteenth_high (pos a) = grind (arith, ints)
-sixteenth_high (negsuc a) = grind (arith, ints)
-
-sixteenth_is : (v q : ℤ) → (q *ℤ pos 16) ≤ℤ v → v <ℤ (q *ℤ pos 16 +ℤ pos 16) → sixteenth v ≡ q
-sixteenth_is v q low high = let a = sixteenth_low v in let b = sixteenth_high v in grind (arith, ints)
-
-sixteenth_rises : (u v : ℤ) → u ≤ℤ v → sixteenth u ≤ℤ sixteenth v
-sixteenth_rises u v h = let a = sixteenth_low u in let b = sixteenth_high v in grind (arith, ints)
-
--- A block of the part in the column of 16 that comes so many behind the box's first.
-record IsInColumn (base low : ℤ) (size x : ℕ) (v : ℤ) : Type 0 where
-  held : is_from low size v ≡ true
-  column : offset (sixteenth base) (sixteenth v) ≡ x
-
--- the same, with the columns as plain numbers: of the box's first, of the part's first and last, and this one
-column_start : (cb cl : ℤ) (x : ℕ) → cb ≤ℤ cl → nat_abs (cl -ℤ cb) ≤ x → cl ≤ℤ (cb +ℤ pos x)
-column_start cb cl x order h = grind (arith, ints)
-
-column_end : (cb cl ce : ℤ) (x : ℕ) → cb ≤ℤ cl → cl ≤ℤ ce → x < nat_abs (cl -ℤ cb) + (nat_abs (ce -ℤ cl) + 1) → (cb +ℤ pos x) ≤ℤ ce
-column_end cb cl ce x order further h = grind (arith, ints)
-
-block_held : (low : ℤ) (size : ℕ) (c ce : ℤ) → 0 < size → c ≤ℤ ce → (ce *ℤ pos 16) ≤ℤ (low +ℤ pos (size - 1)) → is_from low size (int_max low (c *ℤ pos 16)) ≡ true
-block_held low size c ce some order last = grind (arith, ints)
-
-block_low : (low c : ℤ) → (c *ℤ pos 16) ≤ℤ int_max low (c *ℤ pos 16)
-block_low low c = grind (arith, ints)
-
-block_high : (low c cl : ℤ) → cl ≤ℤ c → low <ℤ (cl *ℤ pos 16 +ℤ pos 16) → int_max low (c *ℤ pos 16) <ℤ (c *ℤ pos 16 +ℤ pos 16)
-block_high low c cl order h = grind (arith, ints)
-
-behind_first : (cb : ℤ) (x : ℕ) → nat_abs (cb +ℤ pos x -ℤ cb) ≡ x
-behind_first cb x = grind (arith, ints)
-
-last_not_below : (low : ℤ) (size : ℕ) → low ≤ℤ (low +ℤ pos (size - 1))
-last_not_below low size = grind (arith, ints)
-
-block_in_column : (base low : ℤ) (size x : ℕ) → base ≤ℤ low → 0 < size → offset (sixteenth base) (sixteenth low) ≤ x → x < offset (sixteenth base) (sixteenth low) + columns low size
-    → IsInColumn base low size x (int_max low ((sixteenth base +ℤ pos x) *ℤ pos 16))
-block_in_column base low size x order some from to =
-    let last = low +ℤ pos (size - 1) in
-    let cb = sixteenth base in let cl = sixteenth low in let ce = sixteenth last in
-    let c = cb +ℤ pos x in
-    let first_two = sixteenth_rises base low order in
-    let last_two = sixteenth_rises low last (last_not_below low size) in
-    let start : cl ≤ℤ c = column_start cb cl x first_two from in
-    let end_at : c ≤ℤ ce = column_end cb cl ce x first_two last_two to in
-    let is : sixteenth (int_max low (c *ℤ pos 16)) ≡ c = sixteenth_is (int_max low (c *ℤ pos 16)) c (block_low low c) (block_high low c cl start (sixteenth_high low)) in
-    record {
-      held = block_held low size c ce some end_at (sixteenth_low last);
-      column = ap (λ (q : ℤ). nat_abs (q -ℤ cb)) is ∙ behind_first cb x;
-    }
-
--- and the column of a block of the part is one from the part's first to its last
-record IsColumnOf (base low : ℤ) (size : ℕ) (v : ℤ) : Type 0 where
-  from : offset (sixteenth base) (sixteenth low) ≤ offset (sixteenth base) (sixteenth v)
-  to : offset (sixteenth base) (sixteenth v) < offset (sixteenth base) (sixteenth low) + columns low size
-
-offset_order : (cb cl cv : ℤ) → cb ≤ℤ cl → cl ≤ℤ cv → nat_abs (cl -ℤ cb) ≤ nat_abs (cv -ℤ cb)
-offset_order cb cl cv a b = grind (arith, ints)
-
-offset_end : (cb cl cv ce : ℤ) → cb ≤ℤ cl → cl ≤ℤ cv → cv ≤ℤ ce → nat_abs (cv -ℤ cb) < nat_abs (cl -ℤ cb) + (nat_abs (ce -ℤ cl) + 1)
-offset_end cb cl cv ce a b c = grind (arith, ints)
-
-from_low : (low : ℤ) (size : ℕ) (v : ℤ) → is_from low size v ≡ true → low ≤ℤ v
-from_low low size v h = grind (arith, ints)
-
-to_last : (low : ℤ) (size : ℕ) (v : ℤ) → is_from low size v ≡ true → v ≤ℤ (low +ℤ pos (size - 1))
-to_last low size v h = grind (arith, ints)
-
-column_of_block : (base low : ℤ) (size : ℕ) (v : ℤ) → base ≤ℤ low → is_from low size v ≡ true → IsColumnOf base low size v
-column_of_block base low size v order held =
-    let last = low +ℤ pos (size - 1) in
-    let first_two = sixteenth_rises base low order in
-    let next = sixteenth_rises low v (from_low low size v held) in
-    let last_two = sixteenth_rises v last (to_last low size v held) in
-    record {
-      from = offset_order (sixteenth base) (sixteenth low) (sixteenth v) first_two next;
-      to = offset_end (sixteenth base) (sixteenth low) (sixteenth v) (sixteenth last) first_two next last_two;
-    }
-
 -- ---- the part's chunks
-
--- what it says on one axis that a part lies in a box
-pub record IsWithinAxis (base : ℤ) (whole : ℕ) (low : ℤ) (size : ℕ) : Type 0 where
-  pub from : base ≤ℤ low
-  pub to : (low +ℤ pos size) ≤ℤ (base +ℤ pos whole)
-
-within_axis : (base : ℤ) (whole : ℕ) (low : ℤ) (size : ℕ) → is_within base whole low size ≡ true → IsWithinAxis base whole low size
-within_axis base whole low size h =
-    let parts = and_both (int_le base low) (int_le (low +ℤ pos size) (base +ℤ pos whole)) h in
-    let p0 = parts.0 in let p1 = parts.1 in
-    record { from = grind (arith, ints); to = grind (arith, ints) }
 
 pub record IsInBox (part a : Area) : Type 0 where
   pub x : IsWithinAxis a.least.x a.width part.least.x part.width
@@ -188,36 +88,17 @@ in_box part a h =
     let two = and_both (is_within a.least.x a.width part.least.x part.width) (is_within a.least.y a.height part.least.y part.height) first.0 in
     record { x = within_axis _ _ _ _ two.0; z = within_axis _ _ _ _ first.1 }
 
--- the part's columns are among the box's
-pub columns_within : (base : ℤ) (whole : ℕ) (low : ℤ) (size : ℕ) → 0 < size → IsWithinAxis base whole low size → offset (sixteenth base) (sixteenth low) + columns low size ≤ columns base whole
-columns_within base whole low size some h =
-    let from = h.from in let to = h.to in
-    let lasts : (low +ℤ pos (size - 1)) ≤ℤ (base +ℤ pos (whole - 1)) = grind (arith, ints) in
-    fits (sixteenth base) (sixteenth low) (sixteenth (low +ℤ pos (size - 1))) (sixteenth (base +ℤ pos (whole - 1)))
-    (sixteenth_rises base low from) (sixteenth_rises low (low +ℤ pos (size - 1)) (last_not_below low size)) (sixteenth_rises (low +ℤ pos (size - 1)) (base +ℤ pos (whole - 1)) lasts)
-  where
-    fits : (cb cl ce cw : ℤ) → cb ≤ℤ cl → cl ≤ℤ ce → ce ≤ℤ cw → nat_abs (cl -ℤ cb) + (nat_abs (ce -ℤ cl) + 1) ≤ nat_abs (cw -ℤ cb) + 1
-    fits cb cl ce cw a b c = grind (arith, ints)
-
--- at most 65,535 blocks have at most 4,097 columns
-pub few_columns : (low : ℤ) (size : ℕ) → size ≤ 65535 → columns low size ≤ 4097
-few_columns low size h =
-    few (sixteenth low) (sixteenth (low +ℤ pos (size - 1))) low size h (sixteenth_rises low (low +ℤ pos (size - 1)) (last_not_below low size)) (sixteenth_high low) (sixteenth_low (low +ℤ pos (size - 1)))
-  where
-    few : (cl ce low : ℤ) (size : ℕ) → size ≤ 65535 → cl ≤ℤ ce → low <ℤ (cl *ℤ pos 16 +ℤ pos 16) → (ce *ℤ pos 16) ≤ℤ (low +ℤ pos (size - 1)) → nat_abs (ce -ℤ cl) + 1 ≤ 4097
-    few cl ce low size h order a b = grind (arith, ints)
-
 pub chunk_list_rising : (part a : Area) → is_world_box part ≡ true → is_part part a ≡ true → is_rising_from 0 (chunk_list part a) ≡ true
 chunk_list_rising part a world h =
     let sizes = limits part world in
-    rising_rows (columns_before_x part a) (columns part.least.x part.width) (columns a.least.x a.width) (columns_before_z part a) (columns part.least.z part.length) 0
+    rising_rows (columns_before a.least.x part.least.x) (columns part.least.x part.width) (columns a.least.x a.width) (columns_before a.least.z part.least.z) (columns part.least.z part.length) 0
     (columns_within a.least.x a.width part.least.x part.width sizes.width (in_box part a h).x) (omega arith)
 
 pub chunk_list_touched : (part a : Area) → is_world_box part ≡ true → is_part part a ≡ true → All (IsTouched part a) (chunk_list part a)
 chunk_list_touched part a world h =
     let sizes = limits part world in
     let inside = in_box part a h in
-    all_rows (IsTouched part a) (columns_before_x part a) (columns part.least.x part.width) (columns a.least.x a.width) (columns_before_z part a) (columns part.least.z part.length)
+    all_rows (IsTouched part a) (columns_before a.least.x part.least.x) (columns part.least.x part.width) (columns a.least.x a.width) (columns_before a.least.z part.least.z) (columns part.least.z part.length)
     (λ x z b c d e.
     let bx = block_in_column a.least.x part.least.x part.width x inside.x.from sizes.width b c in
     let bz = block_in_column a.least.z part.least.z part.length z inside.z.from sizes.length d e in
@@ -239,13 +120,13 @@ chunk_list_whole part a h p held =
     let two = and_both (is_from part.least.x part.width p.x) (is_from part.least.y part.height p.y) first.0 in
     let x = column_of_block a.least.x part.least.x part.width p.x inside.x.from two.0 in
     let z = column_of_block a.least.z part.least.z part.length p.z inside.z.from first.1 in
-    in_rows (columns_before_x part a) (columns part.least.x part.width) (columns a.least.x a.width) (columns_before_z part a) (columns part.least.z part.length)
+    in_rows (columns_before a.least.x part.least.x) (columns part.least.x part.width) (columns a.least.x a.width) (columns_before a.least.z part.least.z) (columns part.least.z part.length)
     (offset (sixteenth a.least.x) (sixteenth p.x)) (offset (sixteenth a.least.z) (sixteenth p.z)) x.from x.to z.from z.to
 
 -- the same of a part of a world's box, along both axes
 pub record IsPartColumns (part a : Area) : Type 0 where
-  pub x : columns_before_x part a + columns part.least.x part.width ≤ columns a.least.x a.width
-  pub z : columns_before_z part a + columns part.least.z part.length ≤ columns a.least.z a.length
+  pub x : columns_before a.least.x part.least.x + columns part.least.x part.width ≤ columns a.least.x a.width
+  pub z : columns_before a.least.z part.least.z + columns part.least.z part.length ≤ columns a.least.z a.length
   pub few_x : columns a.least.x a.width ≤ 4097
   pub few_z : columns a.least.z a.length ≤ 4097
   pub from_x : a.least.x ≤ℤ part.least.x
@@ -264,23 +145,6 @@ part_columns part a world whole h =
       from_x = inside.x.from;
       from_z = inside.z.from;
     }
-
--- the last block of a world's box lies on the map
-pub record IsLastOnMap (a : Area) : Type 0 where
-  pub x : (a.least.x +ℤ pos (a.width - 1)) <ℤ pos 2147483648
-  pub z : (a.least.z +ℤ pos (a.length - 1)) <ℤ pos 2147483648
-  pub some_x : 0 < a.width
-  pub some_z : 0 < a.length
-
-pub last_on_map : (a : Area) → is_world_box a ≡ true → IsLastOnMap a
-last_on_map a h =
-    let fits = limits a h in
-    let place = on_map a h in
-    let xt = place.x.to in
-    let zt = place.z.to in
-    let w = fits.width in
-    let l = fits.length in
-    record { x = grind (arith, ints); z = grind (arith, ints); some_x = w; some_z = l }
 
 -- one row more
 pub chunk_rows-more : (first count step row rows : ℕ) → chunk_rows first count step row (rows + 1) ≡ chunk_rows first count step row rows ++ range_with_len (first + (row + rows) * step) count

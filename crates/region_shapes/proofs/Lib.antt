@@ -1,4 +1,5 @@
 mod Squares
+pub mod ExtentLemmas
 mod RowLemmas
 mod RunLemmas
 mod SpanLemmas

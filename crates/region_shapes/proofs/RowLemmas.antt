@@ -20,7 +20,7 @@ use Rattle.edit_terms.specs.Region.{is_between, flat_distance, distance, is_in_s
 use Rattle.edit_terms.specs.Frame.{root}
 use Rattle.edit_terms.proofs.RegionLemmas.{flat_squares, squares, root_is}
 use Rattle.region_shapes.specs.declared.interval.Interval.{Interval}
-use Rattle.region_shapes.specs.Interval.{is_among, nowhere, around, common, shrunk, squared}
+use Rattle.region_shapes.specs.Interval.{is_among, nowhere, between, around, common, shrunk, squared}
 use Rattle.region_shapes.specs.Rows.{disc_row, reach_limit, cuboid_row, sphere_row, cylinder_row, shape_row, ball_row, tube_row, whole_row, walled, enclosed, core_row, IsBounded}
 use Rattle.region_shapes.proofs.Squares.{flat_distance_abs, distance_abs, within_root}
 
@@ -57,7 +57,7 @@ gated : (b c : Bool) (i : Interval) (v : ℤ) → c ≡ is_among i v → (c && b
 gated true c i v h = grind (arith, h)
 gated false c i v h = grind (arith, among_nowhere v)
 
-between_ends : (a b v : ℤ) → is_between a b v ≡ is_among (record { low = int_min a b; high = int_max a b }) v
+between_ends : (a b v : ℤ) → is_between a b v ≡ is_among (between a b) v
 between_ends a b v = grind (arith, ints)
 
 and_last : (x y z : Bool) → (x && y && z) ≡ (x && (y && z))
@@ -66,7 +66,7 @@ and_last x y z = grind arith
 cuboid_row-among : (first second p : Pos) → is_in_shape Cuboid first second p ≡ is_among (cuboid_row first second p.y p.z) p.x
 cuboid_row-among first second p =
     and_last (is_between first.x second.x p.x) (is_between first.y second.y p.y) (is_between first.z second.z p.z)
-    ∙ gated (is_between first.y second.y p.y && is_between first.z second.z p.z) (is_between first.x second.x p.x) (record { low = int_min first.x second.x; high = int_max first.x second.x }) p.x (between_ends first.x second.x p.x)
+    ∙ gated (is_between first.y second.y p.y && is_between first.z second.z p.z) (is_between first.x second.x p.x) (between first.x second.x) p.x (between_ends first.x second.x p.x)
 
 -- the squares of a distance, that along x first
 sum_first : (x y z : ℕ) → x + z + y ≡ x + (z + y)
@@ -217,14 +217,14 @@ rows_inside (Tube centre radius height hollow) is p = tube_inside centre radius 
 
 -- the inner part is empty or lies in the row, away from its ends
 pub record IsInner (core row : Interval) : Type 0 where
-  pub low : (row.low +ℤ pos 1) ≤ℤ core.low
-  pub high : (core.high +ℤ pos 1) ≤ℤ row.high
+  pub from : (row.from +ℤ pos 1) ≤ℤ core.from
+  pub to : (core.to +ℤ pos 1) ≤ℤ row.to
 
 inner_shrunk : (i j : Interval) → IsInner (common (shrunk i) j) i
-inner_shrunk i j = record { low = grind (arith, ints); high = grind (arith, ints) }
+inner_shrunk i j = record { from = grind (arith, ints); to = grind (arith, ints) }
 
 inner_common : (i j k : Interval) → IsInner j i → IsInner (common j k) i
-inner_common i j k h = let a = h.low in let b = h.high in record { low = grind (arith, ints); high = grind (arith, ints) }
+inner_common i j k h = let a = h.from in let b = h.to in record { from = grind (arith, ints); to = grind (arith, ints) }
 
 walled_inner : (row : ℤ → ℤ → Interval) (y z : ℤ) → IsInner (walled row y z) (row y z)
 walled_inner row y z = inner_shrunk (row y z) (common (row y (z -ℤ pos 1)) (row y (z +ℤ pos 1)))

@@ -3,7 +3,7 @@
 -- Along a row of a box, positions are counted from the box's least corner. An interval of the row is then a run of these
 -- numbers, and what a region leaves of the row is two runs.
 use Rattle.std.proofs.Common.{◌≡◌, ℕ, zero, suc, ◌+◌, ◌<◌, ◌≤◌, Bool, true, false, cond, ◌&&◌, ◌||◌, List, [], ◌∷◌, ◌++◌, ℤ, pos, ◌+ℤ◌, ◌-ℤ◌, ◌≤ℤ◌, refl, sym, ◌∙◌, ap, arith}
-use Rattle.std.specs.Prelude.{map, nat_abs, int_le, not}
+use Rattle.std.specs.Prelude.{map, nat_abs, int_le, int_lt, not}
 use Rattle.std.specs.List.{range_with_len, filter}
 use Rattle.std.proofs.lemmas.Bool.Decides.{nat_tests}
 use Rattle.std.proofs.lemmas.Int.{ints}
@@ -13,19 +13,15 @@ use Rattle.edit_terms.specs.declared.pos.Pos.{Pos}
 use Rattle.edit_terms.specs.declared.region.Region.{Region}
 use Rattle.edit_terms.specs.Area.{Area}
 use Rattle.edit_terms.specs.Region.{is_inside}
-use Rattle.edit_terms.specs.Frame.{count_up_to}
 use Rattle.region_shapes.specs.declared.interval.Interval.{Interval}
 use Rattle.region_shapes.specs.declared.span.Span.{Span}
-use Rattle.region_shapes.specs.Interval.{is_among, is_empty, common, below, above}
+use Rattle.region_shapes.specs.Interval.{is_among, is_empty, size, common, below, above}
+use Rattle.region_shapes.specs.Extents.{extent_of}
 use Rattle.region_shapes.specs.Rows.{whole_row, core_row, IsBounded}
 use Rattle.region_shapes.specs.Spans.{along, positions_of, all_positions}
-use Rattle.region_shapes.specs.SpansLeft.{span_of, width_of, spans_outside, row_spans}
+use Rattle.region_shapes.specs.SpansLeft.{span_of, spans_outside, row_spans}
 use Rattle.region_shapes.proofs.RunLemmas.{is_in_run, two_runs}
 use Rattle.region_shapes.proofs.RowLemmas.{rows_inside, among_common}
-
--- how many numbers an interval has
-abbrev pub size : Interval → ℕ
-size i = count_up_to (i.high +ℤ pos 1 -ℤ i.low)
 
 -- a row of a box, from its least coordinate x on
 abbrev pub corner : ℤ → ℤ → ℤ → Pos
@@ -70,22 +66,22 @@ run_of_empty x w s i h none =
 start_is : (x low : ℤ) → x ≤ℤ low → low ≡ x +ℤ pos (nat_abs (low -ℤ x))
 start_is x low h = grind (arith, ints)
 
-run_room : (x : ℤ) (w : ℕ) (i : Interval) → x ≤ℤ i.low → (i.high +ℤ pos 1) ≤ℤ (x +ℤ pos w) → is_empty i ≡ false → nat_abs (i.low -ℤ x) + size i ≤ w
+run_room : (x : ℤ) (w : ℕ) (i : Interval) → x ≤ℤ i.from → i.to ≤ℤ (x +ℤ pos w) → is_empty i ≡ false → nat_abs (i.from -ℤ x) + size i ≤ w
 run_room x w i low high some = grind (arith, ints)
 
-run_tests : (x : ℤ) (k : ℕ) (i : Interval) → x ≤ℤ i.low → is_empty i ≡ false → is_among i (x +ℤ pos k) ≡ is_in_run (nat_abs (i.low -ℤ x)) (size i) k
+run_tests : (x : ℤ) (k : ℕ) (i : Interval) → x ≤ℤ i.from → is_empty i ≡ false → is_among i (x +ℤ pos k) ≡ is_in_run (nat_abs (i.from -ℤ x)) (size i) k
 run_tests x k i low some = grind (arith, ints, nat_tests)
 
-run_of_some : (x : ℤ) (w : ℕ) (i : Interval) → x ≤ℤ i.low → (i.high +ℤ pos 1) ≤ℤ (x +ℤ pos w) → is_empty i ≡ false → IsRun x w i (nat_abs (i.low -ℤ x)) (size i)
+run_of_some : (x : ℤ) (w : ℕ) (i : Interval) → x ≤ℤ i.from → i.to ≤ℤ (x +ℤ pos w) → is_empty i ≡ false → IsRun x w i (nat_abs (i.from -ℤ x)) (size i)
 run_of_some x w i low high some = record {
   room = run_room x w i low high some;
   tests = λ k below. run_tests x k i low some;
-  positions = λ y z. rw some (append-nil (positions_of (record { least = corner i.low y z; count = size i }))
-      ∙ shifted (along (corner i.low y z)) (along (corner x y z)) (nat_abs (i.low -ℤ x)) 0 (nat_abs (i.low -ℤ x)) (size i) (omega arith) (λ k. along_from x i.low y z (nat_abs (i.low -ℤ x)) k (start_is x i.low low)));
+  positions = λ y z. rw some (append-nil (positions_of (record { least = corner i.from y z; count = size i }))
+      ∙ shifted (along (corner i.from y z)) (along (corner x y z)) (nat_abs (i.from -ℤ x)) 0 (nat_abs (i.from -ℤ x)) (size i) (omega arith) (λ k. along_from x i.from y z (nat_abs (i.from -ℤ x)) k (start_is x i.from low)));
 }
 
 -- the run of an interval; of an empty one at this number
-run_within : (x : ℤ) (w d : ℕ) (i : Interval) (b : Bool) → d ≤ w → x ≤ℤ i.low → (i.high +ℤ pos 1) ≤ℤ (x +ℤ pos w) → is_empty i ≡ b → IsRun x w i (cond b d (nat_abs (i.low -ℤ x))) (size i)
+run_within : (x : ℤ) (w d : ℕ) (i : Interval) (b : Bool) → d ≤ w → x ≤ℤ i.from → i.to ≤ℤ (x +ℤ pos w) → is_empty i ≡ b → IsRun x w i (cond b d (nat_abs (i.from -ℤ x))) (size i)
 run_within x w d i true h low high is = run_of_empty x w d i h is
 run_within x w d i false h low high is = run_of_some x w i low high is
 
@@ -114,21 +110,21 @@ kept_two p x y z w s n t m i j run other order h =
     ∙ rw (all_positions-append (span_of y z i) (span_of y z j), run.positions y z, other.positions y z) refl
 
 -- the first of two intervals ends before the second begins, wherever an empty one is put
-in_order : (x : ℤ) (w : ℕ) (i j : Interval) (b c : Bool) → x ≤ℤ i.low → (i.high +ℤ pos 1) ≤ℤ (x +ℤ pos w) → x ≤ℤ j.low → (i.high +ℤ pos 1) ≤ℤ j.low → is_empty i ≡ b → is_empty j ≡ c
-    → cond b 0 (nat_abs (i.low -ℤ x)) + size i ≤ cond c w (nat_abs (j.low -ℤ x))
+in_order : (x : ℤ) (w : ℕ) (i j : Interval) (b c : Bool) → x ≤ℤ i.from → i.to ≤ℤ (x +ℤ pos w) → x ≤ℤ j.from → i.to ≤ℤ j.from → is_empty i ≡ b → is_empty j ≡ c
+    → cond b 0 (nat_abs (i.from -ℤ x)) + size i ≤ cond c w (nat_abs (j.from -ℤ x))
 in_order x w i j true c low high jlow order e f = omega (arith, empty_size i e)
 in_order x w i j false true low high jlow order e f = run_room x w i low high e
 in_order x w i j false false low high jlow order e f = grind (arith, ints)
 
 -- ---- a region's row
 
-among_width : (a : Area) (k : ℕ) → k < a.width → is_among (width_of a) (a.least.x +ℤ pos k) ≡ true
+among_width : (a : Area) (k : ℕ) → k < a.width → is_among (extent_of a).x (a.least.x +ℤ pos k) ≡ true
 among_width a k h = grind (arith, ints)
 
-among_below : (part i : Interval) (v : ℤ) → is_among (below part i) v ≡ (is_among i v && not (int_le part.low v))
+among_below : (part i : Interval) (v : ℤ) → is_among (below part i) v ≡ (is_among i v && not (int_le part.from v))
 among_below part i v = grind (arith, ints)
 
-among_above : (part i : Interval) (v : ℤ) → is_among (above part i) v ≡ (is_among i v && not (int_le v part.high))
+among_above : (part i : Interval) (v : ℤ) → is_among (above part i) v ≡ (is_among i v && not (int_lt v part.to))
 among_above part i v = grind (arith, ints)
 
 and_yes : (b c : Bool) → c ≡ true → (b && c) ≡ b
@@ -140,51 +136,51 @@ and_not_no b c h = rw h (grind arith)
 left_out : (b c d : Bool) → (b && not (c && d)) ≡ ((b && not c) || (b && not d))
 left_out b c d = grind arith
 
-cut_among : (a : Area) (i : Interval) (k : ℕ) → k < a.width → is_among (common i (width_of a)) (a.least.x +ℤ pos k) ≡ is_among i (a.least.x +ℤ pos k)
+cut_among : (a : Area) (i : Interval) (k : ℕ) → k < a.width → is_among (common i (extent_of a).x) (a.least.x +ℤ pos k) ≡ is_among i (a.least.x +ℤ pos k)
 cut_among a i k h =
-    among_common i (width_of a) (a.least.x +ℤ pos k)
-    ∙ and_yes (is_among i (a.least.x +ℤ pos k)) (is_among (width_of a) (a.least.x +ℤ pos k)) (among_width a k h)
+    among_common i (extent_of a).x (a.least.x +ℤ pos k)
+    ∙ and_yes (is_among i (a.least.x +ℤ pos k)) (is_among (extent_of a).x (a.least.x +ℤ pos k)) (among_width a k h)
 
 outside_among : (a : Area) (part i : Interval) (k : ℕ) → k < a.width
     → (is_among i (a.least.x +ℤ pos k) && not (is_among part (a.least.x +ℤ pos k)))
-    ≡ (is_among (below part (common i (width_of a))) (a.least.x +ℤ pos k) || is_among (above part (common i (width_of a))) (a.least.x +ℤ pos k))
+    ≡ (is_among (below part (common i (extent_of a).x)) (a.least.x +ℤ pos k) || is_among (above part (common i (extent_of a).x)) (a.least.x +ℤ pos k))
 outside_among a part i k h =
     let v = a.least.x +ℤ pos k in
-    rw (among_below part (common i (width_of a)) v, among_above part (common i (width_of a)) v, cut_among a i k h)
-    (left_out (is_among i v) (int_le part.low v) (int_le v part.high))
+    rw (among_below part (common i (extent_of a).x) v, among_above part (common i (extent_of a).x) v, cut_among a i k h)
+    (left_out (is_among i v) (int_le part.from v) (int_lt v part.to))
 
-cut_low : (a : Area) (i : Interval) → a.least.x ≤ℤ (common i (width_of a)).low
+cut_low : (a : Area) (i : Interval) → a.least.x ≤ℤ (common i (extent_of a).x).from
 cut_low a i = grind (arith, ints)
 
-cut_high : (a : Area) (i : Interval) → ((common i (width_of a)).high +ℤ pos 1) ≤ℤ (a.least.x +ℤ pos a.width)
+cut_high : (a : Area) (i : Interval) → ((common i (extent_of a).x).to) ≤ℤ (a.least.x +ℤ pos a.width)
 cut_high a i = grind (arith, ints)
 
-below_high : (x : ℤ) (part i : Interval) → (i.high +ℤ pos 1) ≤ℤ x → ((below part i).high +ℤ pos 1) ≤ℤ x
+below_high : (x : ℤ) (part i : Interval) → i.to ≤ℤ x → (below part i).to ≤ℤ x
 below_high x part i h = grind (arith, ints)
 
-above_low : (x : ℤ) (part i : Interval) → x ≤ℤ i.low → x ≤ℤ (above part i).low
+above_low : (x : ℤ) (part i : Interval) → x ≤ℤ i.from → x ≤ℤ (above part i).from
 above_low x part i h = grind (arith, ints)
 
-apart : (part i : Interval) → is_empty part ≡ false → ((below part i).high +ℤ pos 1) ≤ℤ (above part i).low
+apart : (part i : Interval) → is_empty part ≡ false → (below part i).to ≤ℤ (above part i).from
 apart part i h = grind (arith, ints)
 
 -- what a test that holds in an interval without a part keeps of a box's row
 kept_outside : (p : Pos → Bool) (a : Area) (y z : ℤ) (part i : Interval) (b : Bool) → is_empty part ≡ b
     → ((k : ℕ) → k < a.width → p (along (corner a.least.x y z) k) ≡ (is_among i (a.least.x +ℤ pos k) && not (is_among part (a.least.x +ℤ pos k))))
-    → filter p (map (along (corner a.least.x y z)) (range_with_len 0 a.width)) ≡ all_positions (cond b (span_of y z (common i (width_of a))) (span_of y z (below part (common i (width_of a))) ++ span_of y z (above part (common i (width_of a)))))
+    → filter p (map (along (corner a.least.x y z)) (range_with_len 0 a.width)) ≡ all_positions (cond b (span_of y z (common i (extent_of a).x)) (span_of y z (below part (common i (extent_of a).x)) ++ span_of y z (above part (common i (extent_of a).x))))
 kept_outside p a y z part i true none h =
-    let cut = common i (width_of a) in
-    kept_interval p a.least.x y z a.width (cond (is_empty cut) 0 (nat_abs (cut.low -ℤ a.least.x))) (size cut) cut
+    let cut = common i (extent_of a).x in
+    kept_interval p a.least.x y z a.width (cond (is_empty cut) 0 (nat_abs (cut.from -ℤ a.least.x))) (size cut) cut
     (run_within a.least.x a.width 0 cut (is_empty cut) (omega arith) (cut_low a i) (cut_high a i) refl)
     (λ k below. h k below ∙ and_not_no (is_among i (a.least.x +ℤ pos k)) (is_among part (a.least.x +ℤ pos k)) (empty_among part (a.least.x +ℤ pos k) none) ∙ sym (cut_among a i k below))
 kept_outside p a y z part i false some h =
-    let cut = common i (width_of a) in
+    let cut = common i (extent_of a).x in
     let x = a.least.x in
     let low = cut_low a i in
     let high = cut_high a i in
     let first = below part cut in
     let second = above part cut in
-    kept_two p x y z a.width (cond (is_empty first) 0 (nat_abs (first.low -ℤ x))) (size first) (cond (is_empty second) a.width (nat_abs (second.low -ℤ x))) (size second) first second
+    kept_two p x y z a.width (cond (is_empty first) 0 (nat_abs (first.from -ℤ x))) (size first) (cond (is_empty second) a.width (nat_abs (second.from -ℤ x))) (size second) first second
     (run_within x a.width 0 first (is_empty first) (omega arith) low (below_high (x +ℤ pos a.width) part cut high) refl)
     (run_within x a.width a.width second (is_empty second) (omega arith) (above_low x part cut low) high refl)
     (in_order x a.width first second (is_empty first) (is_empty second) low (below_high (x +ℤ pos a.width) part cut high) (above_low x part cut low) (apart part cut some) refl refl)

@@ -1,14 +1,8 @@
 -- The chunks of a box that a part of it touches.
-use Rattle.std.specs.Prelude.{◌≡◌, ℕ, ◌+◌, ◌*◌, ◌&&◌, Bool, true, List, [], ◌∷◌, nat_le}
+use Rattle.std.specs.Prelude.{◌≡◌, ℕ, ◌+◌, ◌*◌, ◌&&◌, Bool, true, List, [], ◌∷◌, nat_le, ℤ}
 use Rattle.std.specs.List.{range_with_len, flat_map}
 use Rattle.edit_terms.specs.declared.pos.Pos.{Pos}
-use Rattle.edit_terms.specs.Area.{Area, holds, is_within, chunk_of, offset, sixteenth, columns}
-
--- each block of the part is one of the box
-abbrev pub is_part : Area → Area → Bool
-is_part part a =
-    is_within a.least.x a.width part.least.x part.width && is_within a.least.y a.height part.least.y part.height
-    && is_within a.least.z a.length part.least.z part.length
+use Rattle.edit_terms.specs.Area.{Area, holds, chunk_of, offset, sixteenth, columns}
 
 -- each number is above the one before it, and the first isn't below low
 abbrev pub is_rising_from : ℕ → List ℕ → Bool
@@ -21,12 +15,9 @@ pub record IsTouched (part a : Area) (index : ℕ) : Type 0 where
   pub held : holds part block ≡ true
   pub place : chunk_of a block ≡ index
 
--- how many columns of 16 a part begins behind the first one of the box
-abbrev pub columns_before_x : Area → Area → ℕ
-columns_before_x part a = offset (sixteenth a.least.x) (sixteenth part.least.x)
-
-abbrev pub columns_before_z : Area → Area → ℕ
-columns_before_z part a = offset (sixteenth a.least.z) (sixteenth part.least.z)
+-- how many columns of 16 a part that begins at low begins behind the first one of a box that begins at base
+abbrev pub columns_before : ℤ → ℤ → ℕ
+columns_before base low = offset (sixteenth base) (sixteenth low)
 
 -- the chunks by rows along x
 abbrev pub chunk_rows : ℕ → ℕ → ℕ → ℕ → ℕ → List ℕ
@@ -34,5 +25,5 @@ chunk_rows first count step row rows = flat_map (λ z. range_with_len (first + z
 
 abbrev pub chunk_list : Area → Area → List ℕ
 chunk_list part a =
-    chunk_rows (columns_before_x part a) (columns part.least.x part.width) (columns a.least.x a.width) (columns_before_z part a)
-    (columns part.least.z part.length)
+    chunk_rows (columns_before a.least.x part.least.x) (columns part.least.x part.width) (columns a.least.x a.width)
+    (columns_before a.least.z part.least.z) (columns part.least.z part.length)

@@ -4,5 +4,4 @@ pub mod Spans
 pub mod SpansLeft
 pub mod RowSpans
 pub mod Extents
-pub mod SharedExtents
 pub mod Chunks

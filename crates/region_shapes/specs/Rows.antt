@@ -2,7 +2,6 @@
 -- the inner part that walls, faces and hollow shapes leave out. `RowLemmas` proves that they are the rows of
 -- `is_inside`.
 use Rattle.std.specs.Prelude.{ℕ, ◌+◌, ◌-◌, ◌*◌, ◌^◌, ◌<◌, ◌&&◌, nat_le, if◌then◌else◌, ℤ, pos, nat_abs, ◌+ℤ◌, ◌-ℤ◌}
-use Rattle.std.specs.Int.{int_min, int_max}
 use Rattle.edit_terms.specs.declared.pos.Pos.{Pos}
 use Rattle.edit_terms.specs.declared.region.Kind.{Kind}
 use Rattle.edit_terms.specs.declared.region.Kind.TheVariants.{Cuboid, Sphere, Cylinder}
@@ -12,7 +11,7 @@ use Rattle.edit_terms.specs.Area.{is_from}
 use Rattle.edit_terms.specs.Region.{is_between, flat_distance, distance}
 use Rattle.edit_terms.specs.Frame.{root}
 use Rattle.region_shapes.specs.declared.interval.Interval.{Interval}
-use Rattle.region_shapes.specs.Interval.{nowhere, around, common, shrunk, squared}
+use Rattle.region_shapes.specs.Interval.{nowhere, between, around, common, shrunk, squared}
 
 -- the numbers whose squared distance from the middle is at most what of the limit isn't used up
 abbrev pub disc_row : ℤ → ℕ → ℕ → Interval
@@ -26,7 +25,7 @@ reach_limit radius = radius * radius + radius
 abbrev pub cuboid_row : Pos → Pos → ℤ → ℤ → Interval
 cuboid_row first second y z =
     if is_between first.y second.y y && is_between first.z second.z z
-    then record { low = int_min first.x second.x; high = int_max first.x second.x } else nowhere
+    then between first.x second.x else nowhere
 
 abbrev pub sphere_row : Pos → Pos → ℤ → ℤ → Interval
 sphere_row first second y z = disc_row first.x (nat_abs (distance first second)) (squared first.z z + squared first.y y)

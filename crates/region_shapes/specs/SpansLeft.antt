@@ -1,24 +1,20 @@
 -- What an iterator over the spans of a region still gives: the spans of one row behind those of the other.
-use Rattle.std.specs.Prelude.{ℕ, ◌-◌, ◌*◌, ◌/◌, ◌%◌, ◌++◌, if◌then◌else◌, List, [], ◌∷◌, Option, ℤ, pos, ◌+ℤ◌, ◌-ℤ◌}
+use Rattle.std.specs.Prelude.{ℕ, ◌-◌, ◌*◌, ◌/◌, ◌%◌, ◌++◌, if◌then◌else◌, List, [], ◌∷◌, Option, ℤ, pos, ◌+ℤ◌}
 use Rattle.std.specs.List.{range_with_len, flat_map}
 use Rattle.std.specs.Option.{option_to_list}
 use Rattle.edit_terms.specs.declared.region.Region.{Region}
 use Rattle.edit_terms.specs.Area.{Area}
-use Rattle.edit_terms.specs.Frame.{count_up_to}
 use Rattle.region_shapes.specs.declared.interval.Interval.{Interval}
 use Rattle.region_shapes.specs.declared.span.Span.{Span}
-use Rattle.region_shapes.specs.Interval.{is_empty, common, below, above}
+use Rattle.region_shapes.specs.Interval.{is_empty, size, common, below, above}
+use Rattle.region_shapes.specs.Extents.{extent_of}
 use Rattle.region_shapes.specs.Rows.{whole_row, core_row}
 
 -- the span of an interval's positions in a row, where there are any
 abbrev pub span_of : ℤ → ℤ → Interval → List Span
 span_of y z i =
     if is_empty i then []
-    else record { least = record { x = i.low; y = y; z = z }; count = count_up_to (i.high +ℤ pos 1 -ℤ i.low) } ∷ []
-
--- the coordinates x of a box
-abbrev pub width_of : Area → Interval
-width_of a = record { low = a.least.x; high = a.least.x +ℤ pos a.width -ℤ pos 1 }
+    else record { least = record { x = i.from; y = y; z = z }; count = size i } ∷ []
 
 -- the spans of an interval's positions that aren't among a part's
 abbrev pub spans_outside : ℤ → ℤ → Interval → Interval → List Span
@@ -26,7 +22,7 @@ spans_outside y z part i = if is_empty part then span_of y z i else span_of y z 
 
 -- the spans of a region's row in a box
 abbrev pub row_spans : Region → Area → ℤ → ℤ → List Span
-row_spans region a y z = spans_outside y z (core_row region y z) (common (whole_row region y z) (width_of a))
+row_spans region a y z = spans_outside y z (core_row region y z) (common (whole_row region y z) (extent_of a).x)
 
 -- the spans of the row of this number, counted as the box's rows come in index order
 abbrev pub numbered_spans : Region → Area → ℕ → List Span

@@ -1,68 +1,33 @@
 //! Bounding boxes cut by a world's box.
 
-ghost use Rattle.std.specs.Prelude.{◌≡◌, ◌<◌, ◌≤◌, MatchOption, IfSome, true, pos, negsuc, nat_abs, ◌+ℤ◌, ◌-ℤ◌, ◌≤ℤ◌, ◌<ℤ◌};
-ghost use Rattle.std.specs.Int.{int_min, int_max};
-ghost use Rattle.edit_terms.specs.Area.{volume};
+ghost use Rattle.std.specs.Prelude.{◌≡◌, ◌<◌, ◌≤◌, MatchOption, IfSome, true, false, pos, negsuc, ◌+ℤ◌, ◌-ℤ◌, ◌≤ℤ◌, ◌<ℤ◌};
+ghost use Rattle.edit_terms.specs.Area.{volume, is_part};
 ghost use Rattle.edit_terms.specs.Frame.{frame_of, common_box};
-ghost use Rattle.region_shapes.specs.Chunks.{is_part};
-ghost use Rattle.region_shapes.specs.Extents.{IsFrame};
-ghost use Rattle.region_shapes.specs.SharedExtents.{IsCommon};
+ghost use Rattle.region_shapes.specs.Interval.{size};
+ghost use Rattle.region_shapes.specs.Extents.{is_without, IsPartOfMap, IsExtentOnMap};
 
-use crate::extent::{Extent, onward_x, onward_y, onward_z};
-use crate::frame::{Frame, frame_of};
-use crate::shared::Shared;
+use crate::extent::{Extent, common_extent, extent_of, is_without};
+use crate::frame::frame_of;
+use crate::interval::Interval;
 use edit_terms::{Pos, Region, WorldBox};
 
-fn common(frame: &Extent, own: &Extent) -> Option<Shared>
-    requires least { negsuc 33554431 ≤ℤ own.now.from }
-    requires most { own.now.to ≤ℤ pos 33554432 }
-    ensures { IsCommon result frame.now own.now }
+/// The first number of an interval that has some.
+pub(crate) fn first(interval: &Interval) -> i32
+    requires map { IsPartOfMap interval.now }
+    requires some { interval.now.from <ℤ interval.now.to }
+    ensures { result ≡ interval.now.from }
 {
-    let from = frame.from.max(own.from);
-    let to = frame.to.min(own.to);
-    if to <= from {
-        return None;
-    }
-    Some(Shared { from, to })
+    interval.from as i32
 }
 
-fn count(shared: &Shared) -> u32
-    ensures value { result ≡ nat_abs (shared.now.to -ℤ shared.now.from) }
+/// How many numbers an interval has that has some.
+pub(crate) fn size(interval: &Interval) -> u32
+    requires map { IsPartOfMap interval.now }
+    requires some { interval.now.from <ℤ interval.now.to }
+    ensures value { result ≡ size interval.now }
     ensures some { 0 < result }
 {
-    (shared.to - shared.from) as u32
-}
-
-fn corner(x: &Shared, y: &Shared, z: &Shared) -> Pos
-    ensures x { result.x ≡ x.now.from }
-    ensures y { result.y ≡ y.now.from }
-    ensures z { result.z ≡ z.now.from }
-{
-    Pos {
-        x: x.from as i32,
-        y: y.from as i32,
-        z: z.from as i32,
-    }
-}
-
-/// The coordinates of a world's box.
-#[tactic(auto, using(edit_terms::proofs::AreaLemmas::on_map))]
-fn frame_of_box(area: &WorldBox) -> Frame
-    ensures frame { IsFrame result area.now }
-    ensures least_x { negsuc 33554431 ≤ℤ result.x.from }
-    ensures most_x { result.x.to ≤ℤ pos 33554432 }
-    ensures least_y { negsuc 33554431 ≤ℤ result.y.from }
-    ensures most_y { result.y.to ≤ℤ pos 33554432 }
-    ensures least_z { negsuc 33554431 ≤ℤ result.z.from }
-    ensures most_z { result.z.to ≤ℤ pos 33554432 }
-{
-    area.well_formed();
-    let least = area.least();
-    Frame {
-        x: onward_x(&least, area.width()),
-        y: onward_y(&least, area.height()),
-        z: onward_z(&least, area.length()),
-    }
+    (interval.to - interval.from) as u32
 }
 
 /// The bounding box of a region, cut by a world's box. Walls, faces and hollow shapes have that of the
@@ -84,17 +49,25 @@ fn cut_frame(region: &Region, area: &WorldBox) -> Option<WorldBox>
         (volume (common_box (frame_of region.now) area.now) ≡ 0)
         (λ b. b ≡ common_box (frame_of region.now) area.now) }
 {
-    let frame = frame_of(region);
-    let own = frame_of_box(area);
-    let Some(x) = common(&frame.x, &own.x) else {
+    let cut = common_extent(&frame_of(region), &extent_of(area));
+    if is_without(&cut) {
         return None;
-    };
-    let Some(y) = common(&frame.y, &own.y) else {
-        return None;
-    };
-    let Some(z) = common(&frame.z, &own.z) else {
-        return None;
-    };
+    }
     area.well_formed();
-    WorldBox::new(corner(&x, &y, &z), count(&x), count(&y), count(&z))
+    WorldBox::new(corner(&cut), size(&cut.x), size(&cut.y), size(&cut.z))
+}
+
+/// The first position of an extent that has some.
+fn corner(extent: &Extent) -> Pos
+    requires map { IsExtentOnMap extent.now }
+    requires some { is_without extent.now ≡ false }
+    ensures x { result.x ≡ extent.now.x.from }
+    ensures y { result.y ≡ extent.now.y.from }
+    ensures z { result.z ≡ extent.now.z.from }
+{
+    Pos {
+        x: first(&extent.x),
+        y: first(&extent.y),
+        z: first(&extent.z),
+    }
 }

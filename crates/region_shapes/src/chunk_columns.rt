@@ -1,8 +1,8 @@
 //! The columns of 16 blocks of a part of a box, one axis at a time.
 
-ghost use Rattle.std.specs.Prelude.{◌≡◌, ◌+◌, ◌-◌, ◌<◌, ◌≤◌, true, pos, negsuc, ◌+ℤ◌, ◌*ℤ◌, ◌≤ℤ◌, ◌<ℤ◌};
-ghost use Rattle.edit_terms.specs.Area.{sixteenth, offset, columns};
-ghost use Rattle.region_shapes.specs.Chunks.{is_part, columns_before_x, columns_before_z};
+ghost use Rattle.std.specs.Prelude.{◌≡◌, ◌+◌, ◌<◌, ◌≤◌, true, pos, negsuc, ◌+ℤ◌, ◌*ℤ◌, ◌≤ℤ◌, ◌<ℤ◌};
+ghost use Rattle.edit_terms.specs.Area.{sixteenth, offset, columns, is_part};
+ghost use Rattle.region_shapes.specs.Chunks.{columns_before};
 
 use edit_terms::{Pos, WorldBox};
 
@@ -55,50 +55,11 @@ fn offset_z(from: &Pos, to: &Pos) -> u32
     (sixteenth_z(to) - first) as u32
 }
 
-fn moved(from: &Pos, east: u32, south: u32) -> Pos
-    requires x { (from.now.x +ℤ pos east) <ℤ pos 2147483648 }
-    requires z { (from.now.z +ℤ pos south) <ℤ pos 2147483648 }
-    ensures x { result.x ≡ from.now.x +ℤ pos east }
-    ensures z { result.z ≡ from.now.z +ℤ pos south }
-{
-    Pos {
-        x: (i64::from(from.x) + i64::from(east)) as i32,
-        y: from.y,
-        z: (i64::from(from.z) + i64::from(south)) as i32,
-    }
-}
-
-/// The last block of a box's least layer.
-#[tactic(auto, using(crate::proofs::ChunkLemmas::last_on_map, edit_terms::proofs::AreaLemmas::limits))]
-fn last_of(area: &WorldBox) -> Pos
-    ensures x { result.x ≡ area.now.least.x +ℤ pos (area.now.width - 1) }
-    ensures z { result.z ≡ area.now.least.z +ℤ pos (area.now.length - 1) }
-    ensures from_x { area.now.least.x ≤ℤ result.x }
-    ensures from_z { area.now.least.z ≤ℤ result.z }
-{
-    area.well_formed();
-    moved(&area.least(), area.width() - 1, area.length() - 1)
-}
-
-fn columns_of_x(area: &WorldBox) -> u32
-    ensures value { result ≡ columns area.now.least.x area.now.width }
-    ensures small { result ≤ 268435457 }
-{
-    offset_x(&area.least(), &last_of(area)) + 1
-}
-
-fn columns_of_z(area: &WorldBox) -> u32
-    ensures value { result ≡ columns area.now.least.z area.now.length }
-    ensures small { result ≤ 268435457 }
-{
-    offset_z(&area.least(), &last_of(area)) + 1
-}
-
 /// The columns along x.
 #[tactic(auto, using(crate::proofs::ChunkLemmas::part_columns))]
 pub(crate) fn columns_x(part: &WorldBox, area: &WorldBox) -> Columns
     requires { is_part part.now area.now ≡ true }
-    ensures first { result.first ≡ columns_before_x part.now area.now }
+    ensures first { result.first ≡ columns_before area.now.least.x part.now.least.x }
     ensures count { result.count ≡ columns part.now.least.x part.now.width }
     ensures whole { result.whole ≡ columns area.now.least.x area.now.width }
     ensures within { result.first + result.count ≤ result.whole }
@@ -108,8 +69,8 @@ pub(crate) fn columns_x(part: &WorldBox, area: &WorldBox) -> Columns
     area.well_formed();
     Columns {
         first: offset_x(&area.least(), &part.least()),
-        count: columns_of_x(part),
-        whole: columns_of_x(area),
+        count: part.chunk_columns(),
+        whole: area.chunk_columns(),
     }
 }
 
@@ -117,7 +78,7 @@ pub(crate) fn columns_x(part: &WorldBox, area: &WorldBox) -> Columns
 #[tactic(auto, using(crate::proofs::ChunkLemmas::part_columns))]
 pub(crate) fn columns_z(part: &WorldBox, area: &WorldBox) -> Columns
     requires { is_part part.now area.now ≡ true }
-    ensures first { result.first ≡ columns_before_z part.now area.now }
+    ensures first { result.first ≡ columns_before area.now.least.z part.now.least.z }
     ensures count { result.count ≡ columns part.now.least.z part.now.length }
     ensures whole { result.whole ≡ columns area.now.least.z area.now.length }
     ensures within { result.first + result.count ≤ result.whole }
@@ -127,7 +88,7 @@ pub(crate) fn columns_z(part: &WorldBox, area: &WorldBox) -> Columns
     area.well_formed();
     Columns {
         first: offset_z(&area.least(), &part.least()),
-        count: columns_of_z(part),
-        whole: columns_of_z(area),
+        count: part.chunk_rows(),
+        whole: area.chunk_rows(),
     }
 }

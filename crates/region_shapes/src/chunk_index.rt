@@ -1,11 +1,10 @@
 ghost use Rattle.std.specs.Prelude.{◌≡◌, ◌+◌, ◌*◌, ◌++◌, ◌<◌, ◌≤◌, ◌^◌, true, IfOk, OnOk};
 ghost use Rattle.std.specs.List.{All, Contains, range_with_len};
 ghost use Rattle.edit_terms.specs.declared.pos.Pos.{Pos};
-ghost use Rattle.edit_terms.specs.Area.{holds, chunk_of, is_within};
-ghost use Rattle.region_shapes.specs.Chunks.{is_part, is_rising_from, IsTouched, chunk_rows, chunk_list};
+ghost use Rattle.edit_terms.specs.Area.{holds, chunk_of, is_part};
+ghost use Rattle.region_shapes.specs.Chunks.{is_rising_from, IsTouched, chunk_rows, chunk_list};
 
 use crate::chunk_columns::{Columns, columns_x, columns_z};
-use crate::extent::{onward_x, onward_y, onward_z};
 use edit_terms::{Memory, Pos, WorldBox};
 use std::alloc::Global;
 
@@ -55,39 +54,4 @@ fn push_run(chunks: &mut Vec<u32>, first: u32, count: u32) -> Result<(), Memory>
         chunks.push(index)?;
     }
     Ok(())
-}
-
-/// True exactly where each block of a part is one of the box.
-pub fn is_part(part: &WorldBox, area: &WorldBox) -> bool
-    ensures { result ≡ is_part part.now area.now }
-{
-    let least = part.least();
-    let own = area.least();
-    is_within_x(&own, area.width(), &least, part.width())
-        && is_within_y(&own, area.height(), &least, part.height())
-        && is_within_z(&own, area.length(), &least, part.length())
-}
-
-fn is_within_x(own: &Pos, whole: u32, least: &Pos, size: u32) -> bool
-    ensures { result ≡ is_within own.now.x whole least.now.x size }
-{
-    let own = onward_x(own, whole);
-    let part = onward_x(least, size);
-    own.from <= part.from && part.to <= own.to
-}
-
-fn is_within_y(own: &Pos, whole: u32, least: &Pos, size: u32) -> bool
-    ensures { result ≡ is_within own.now.y whole least.now.y size }
-{
-    let own = onward_y(own, whole);
-    let part = onward_y(least, size);
-    own.from <= part.from && part.to <= own.to
-}
-
-fn is_within_z(own: &Pos, whole: u32, least: &Pos, size: u32) -> bool
-    ensures { result ≡ is_within own.now.z whole least.now.z size }
-{
-    let own = onward_z(own, whole);
-    let part = onward_z(least, size);
-    own.from <= part.from && part.to <= own.to
 }

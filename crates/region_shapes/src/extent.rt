@@ -1,123 +1,59 @@
-//! The coordinates of a box along one axis.
+//! Boxes of positions by an interval on each axis.
 
-ghost use Rattle.std.specs.Prelude.{◌≡◌, ◌+◌, ◌*◌, ◌<◌, ◌^◌, pos, negsuc, ◌+ℤ◌, ◌-ℤ◌, ◌≤ℤ◌, ◌<ℤ◌, FitsSigned};
-ghost use Rattle.std.specs.Int.{w32, int_min, int_max};
-ghost use Rattle.edit_terms.specs.Frame.{count_between, count_up_to};
-ghost use Rattle.region_shapes.specs.Extents.{IsExtent};
+ghost use Rattle.std.specs.Prelude.{◌≡◌};
+ghost use Rattle.region_shapes.specs.Extents.{extent_of, is_in_extent, is_without, common_extent, IsExtentNear, IsExtentOnMap};
 
-use edit_terms::Pos;
+use crate::interval::{Interval, common, is_among, is_empty, numbers_from};
+use edit_terms::{Pos, WorldBox};
 
-/// The numbers from the one end up to but without the other.
+/// A box of positions. It may reach beyond the map, and may be empty.
 #[derive(Clone, Copy, Debug)]
-pub(crate) struct Extent {
-    pub(crate) from: i64,
-    pub(crate) to: i64,
+pub struct Extent {
+    pub x: Interval,
+    pub y: Interval,
+    pub z: Interval,
 }
 
-/// The coordinates x at most so far from a position's.
-pub(crate) fn around_x(p: &Pos, reach: u64) -> Extent
-    requires { reach < 2 ^ 34 }
-    ensures { IsExtent result (p.now.x -ℤ pos reach) (2 * reach + 1) }
+/// The extent of a world's box.
+
+pub fn extent_of(area: &WorldBox) -> Extent
+    ensures value { result ≡ extent_of area.now }
+    ensures near { IsExtentNear result }
+    ensures map { IsExtentOnMap result }
 {
-    let x = i64::from(p.x);
+    area.well_formed();
+    let least = area.least();
+    let x = numbers_from(least.x, area.width());
+    let y = numbers_from(least.y, area.height());
+    let z = numbers_from(least.z, area.length());
+    Extent { x, y, z }
+}
+
+/// True exactly for a position of the extent.
+pub fn is_in_extent(extent: &Extent, p: &Pos) -> bool
+    ensures { result ≡ is_in_extent extent.now p.now }
+{
+    let x = is_among(&extent.x, p.x);
+    let y = is_among(&extent.y, p.y);
+    let z = is_among(&extent.z, p.z);
+    x && y && z
+}
+
+/// True exactly where there is no position.
+pub fn is_without(extent: &Extent) -> bool
+    ensures { result ≡ is_without extent.now }
+{
+    is_empty(&extent.x) || is_empty(&extent.y) || is_empty(&extent.z)
+}
+
+/// The positions of both.
+pub fn common_extent(first: &Extent, second: &Extent) -> Extent
+    ensures value { result ≡ common_extent first.now second.now }
+    ensures map { IsExtentOnMap second.now → IsExtentOnMap result }
+{
     Extent {
-        from: x - reach as i64,
-        to: x + reach as i64 + 1,
-    }
-}
-
-/// The coordinates y at most so far from a position's.
-pub(crate) fn around_y(p: &Pos, reach: u64) -> Extent
-    requires { reach < 2 ^ 34 }
-    ensures { IsExtent result (p.now.y -ℤ pos reach) (2 * reach + 1) }
-{
-    let y = i64::from(p.y);
-    Extent {
-        from: y - reach as i64,
-        to: y + reach as i64 + 1,
-    }
-}
-
-/// The coordinates z at most so far from a position's.
-pub(crate) fn around_z(p: &Pos, reach: u64) -> Extent
-    requires { reach < 2 ^ 34 }
-    ensures { IsExtent result (p.now.z -ℤ pos reach) (2 * reach + 1) }
-{
-    let z = i64::from(p.z);
-    Extent {
-        from: z - reach as i64,
-        to: z + reach as i64 + 1,
-    }
-}
-
-/// Two coordinates and those between them.
-fn between(first: i64, second: i64) -> Extent
-    requires first { FitsSigned w32 first }
-    requires second { FitsSigned w32 second }
-    ensures { IsExtent result (int_min first second) (count_between first second) }
-{
-    if first < second {
-        return Extent {
-            from: first,
-            to: second + 1,
-        };
-    }
-    Extent {
-        from: second,
-        to: first + 1,
-    }
-}
-
-/// The coordinates x of two positions and between them.
-pub(crate) fn between_x(p: &Pos, q: &Pos) -> Extent
-    ensures { IsExtent result (int_min p.now.x q.now.x) (count_between p.now.x q.now.x) }
-{
-    between(i64::from(p.x), i64::from(q.x))
-}
-
-/// The coordinates y of two positions and between them.
-pub(crate) fn between_y(p: &Pos, q: &Pos) -> Extent
-    ensures { IsExtent result (int_min p.now.y q.now.y) (count_between p.now.y q.now.y) }
-{
-    between(i64::from(p.y), i64::from(q.y))
-}
-
-/// The coordinates z of two positions and between them.
-pub(crate) fn between_z(p: &Pos, q: &Pos) -> Extent
-    ensures { IsExtent result (int_min p.now.z q.now.z) (count_between p.now.z q.now.z) }
-{
-    between(i64::from(p.z), i64::from(q.z))
-}
-
-/// So many coordinates x from a position's on.
-pub(crate) fn onward_x(p: &Pos, size: u32) -> Extent
-    ensures { IsExtent result p.now.x size }
-{
-    let x = i64::from(p.x);
-    Extent {
-        from: x,
-        to: x + i64::from(size),
-    }
-}
-
-/// So many coordinates y from a position's on.
-pub(crate) fn onward_y(p: &Pos, size: u32) -> Extent
-    ensures { IsExtent result p.now.y size }
-{
-    let y = i64::from(p.y);
-    Extent {
-        from: y,
-        to: y + i64::from(size),
-    }
-}
-
-/// So many coordinates z from a position's on.
-pub(crate) fn onward_z(p: &Pos, size: u32) -> Extent
-    ensures { IsExtent result p.now.z size }
-{
-    let z = i64::from(p.z);
-    Extent {
-        from: z,
-        to: z + i64::from(size),
+        x: common(&first.x, &second.x),
+        y: common(&first.y, &second.y),
+        z: common(&first.z, &second.z),
     }
 }

@@ -1,95 +1,104 @@
 //! Bounding boxes of regions.
 
 ghost use Rattle.std.specs.Prelude.{◌≡◌, ◌<◌, ◌^◌};
-ghost use Rattle.std.specs.Int.{int_min};
-ghost use Rattle.edit_terms.specs.declared.region.Kind.TheVariants.{Cuboid};
-ghost use Rattle.edit_terms.specs.Frame.{ball_frame, disc_frame, shape_frame, frame_of, count_between};
-ghost use Rattle.region_shapes.specs.Extents.{IsExtent, IsFrame};
+ghost use Rattle.edit_terms.specs.Frame.{frame_of, frame_of_selection};
+ghost use Rattle.region_shapes.specs.Interval.{around, between, IsNear};
+ghost use Rattle.region_shapes.specs.Extents.{extent_of, IsExtentNear};
 
-use crate::extent::{
-    Extent, around_x, around_y, around_z, between_x, between_y, between_z, onward_y,
-};
+use crate::extent::Extent;
+use crate::interval::{Interval, around, between, numbers_from};
 use crate::root::root;
 use crate::whole::{flat_limit, limit};
 use edit_terms::{Kind, Pos, Region, Selection};
 
-/// A box by its coordinates on each axis.
-#[derive(Clone, Copy, Debug)]
-pub(crate) struct Frame {
-    pub(crate) x: Extent,
-    pub(crate) y: Extent,
-    pub(crate) z: Extent,
+/// The positions at most so far from the centre over x and z, at these heights.
+fn disc(centre: &Pos, reach: u64, heights: Interval) -> Extent
+    requires reach { reach < 2 ^ 34 }
+    requires near { IsNear heights }
+    ensures value { result ≡ record { x = around centre.now.x reach; y = heights; z = around centre.now.z reach } }
+    ensures near { IsExtentNear result }
+{
+    let x = around(centre.x, reach);
+    let z = around(centre.z, reach);
+    Extent { x, y: heights, z }
 }
 
-fn ball_frame(centre: &Pos, reach: u64) -> Frame
-    requires { reach < 2 ^ 34 }
-    ensures { IsFrame result (ball_frame centre.now reach) }
+fn cuboid(first: &Pos, second: &Pos) -> Extent
+    ensures value { result ≡ record { x = between first.now.x second.now.x; y = between first.now.y second.now.y; z = between first.now.z second.now.z } }
+    ensures near { IsExtentNear result }
 {
-    Frame {
-        x: around_x(centre, reach),
-        y: around_y(centre, reach),
-        z: around_z(centre, reach),
-    }
-}
-
-fn cylinder_frame(centre: &Pos, reach: u64, second: &Pos) -> Frame
-    requires { reach < 2 ^ 34 }
-    ensures { IsFrame result (disc_frame centre.now reach (int_min centre.now.y second.now.y) (count_between centre.now.y second.now.y)) }
-{
-    Frame {
-        x: around_x(centre, reach),
-        y: between_y(centre, second),
-        z: around_z(centre, reach),
-    }
-}
-
-fn tube_frame(centre: &Pos, reach: u64, height: u32) -> Frame
-    requires { reach < 2 ^ 34 }
-    ensures { IsFrame result (disc_frame centre.now reach centre.now.y height) }
-{
-    Frame {
-        x: around_x(centre, reach),
-        y: onward_y(centre, height),
-        z: around_z(centre, reach),
-    }
-}
-
-fn cuboid_frame(first: &Pos, second: &Pos) -> Frame
-    ensures { IsFrame result (shape_frame Cuboid first.now second.now) }
-{
-    Frame {
+    Extent {
         x: between_x(first, second),
         y: between_y(first, second),
         z: between_z(first, second),
     }
 }
 
-fn shape_frame(s: &Selection) -> Frame
-    ensures { IsFrame result (shape_frame s.now.kind s.now.first s.now.second) }
+/// The coordinates x of two positions and between them.
+pub(crate) fn between_x(first: &Pos, second: &Pos) -> Interval
+    ensures value { result ≡ between first.now.x second.now.x }
+    ensures near { IsNear result }
+{
+    between(first.x, second.x)
+}
+
+/// The heights of two positions and between them.
+fn between_y(first: &Pos, second: &Pos) -> Interval
+    ensures value { result ≡ between first.now.y second.now.y }
+    ensures near { IsNear result }
+{
+    between(first.y, second.y)
+}
+
+/// The coordinates z of two positions and between them.
+fn between_z(first: &Pos, second: &Pos) -> Interval
+    ensures value { result ≡ between first.now.z second.now.z }
+    ensures near { IsNear result }
+{
+    between(first.z, second.z)
+}
+
+/// The bounding box of a selection. It may reach beyond the map.
+pub fn frame_of_selection(s: &Selection) -> Extent
+    ensures value { result ≡ extent_of (frame_of_selection s.now) }
+    ensures near { IsExtentNear result }
 {
     match s.kind {
-        Kind::Cuboid => cuboid_frame(&s.first, &s.second),
-        Kind::Sphere => ball_frame(&s.first, root(limit(&s.first, &s.second))),
+        Kind::Cuboid => cuboid(&s.first, &s.second),
+        Kind::Sphere => {
+            let reach = root(limit(&s.first, &s.second));
+            disc(&s.first, reach, around(s.first.y, reach))
+        }
         Kind::Cylinder => {
-            cylinder_frame(&s.first, root(flat_limit(&s.first, &s.second)), &s.second)
+            let reach = root(flat_limit(&s.first, &s.second));
+            disc(&s.first, reach, between_y(&s.first, &s.second))
         }
     }
 }
 
-/// The bounding box of a region.
-pub(crate) fn frame_of(region: &Region) -> Frame
-    ensures { IsFrame result (frame_of region.now) }
+/// The bounding box of a region; walls, faces and hollow shapes have that of the whole shape. It may reach
+/// beyond the map.
+pub fn frame_of(region: &Region) -> Extent
+    ensures value { result ≡ extent_of (frame_of region.now) }
+    ensures near { IsExtentNear result }
 {
     match region {
-        Region::Selected(s) => shape_frame(s),
-        Region::Walls(s) => shape_frame(s),
-        Region::Faces(s) => shape_frame(s),
-        Region::Ball { centre, radius, .. } => ball_frame(centre, u64::from(*radius)),
+        Region::Selected(s) => frame_of_selection(s),
+        Region::Walls(s) => frame_of_selection(s),
+        Region::Faces(s) => frame_of_selection(s),
+        Region::Ball { centre, radius, .. } => {
+            let reach = u64::from(*radius);
+            disc(centre, reach, around(centre.y, reach))
+        }
         Region::Tube {
             centre,
             radius,
             height,
             ..
-        } => tube_frame(centre, u64::from(*radius), *height),
+        } => disc(
+            centre,
+            u64::from(*radius),
+            numbers_from(centre.y, *height),
+        ),
     }
 }

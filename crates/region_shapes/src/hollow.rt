@@ -1,7 +1,6 @@
 //! The inner parts of rows that walls, faces and hollow shapes leave out.
 
 ghost use Rattle.std.specs.Prelude.{◌≡◌};
-ghost use Rattle.region_shapes.specs.Interval.{IsWithin};
 ghost use Rattle.region_shapes.specs.Rows.{walled, enclosed, core_row, shape_row, whole_row};
 
 use crate::interval::{Interval, common, nowhere, shrunk};
@@ -11,8 +10,7 @@ use edit_terms::{Pos, Region};
 
 /// The positions of a position's row whose neighbours north, south, east and west belong to the whole shape.
 fn walled(region: &Region, p: &Pos) -> Interval
-    ensures value { result ≡ walled (whole_row region.now) p.now.y p.now.z }
-    ensures near { IsWithin 68719476736 result }
+    ensures { result ≡ walled (whole_row region.now) p.now.y p.now.z }
 {
     let own = shrunk(&whole_row(region, &row_at(p)));
     let north = whole_row(region, &row_north(p));
@@ -22,8 +20,7 @@ fn walled(region: &Region, p: &Pos) -> Interval
 
 /// The positions of a position's row whose six neighbours belong to the whole shape.
 fn enclosed(region: &Region, p: &Pos) -> Interval
-    ensures value { result ≡ enclosed (whole_row region.now) p.now.y p.now.z }
-    ensures near { IsWithin 68719476736 result }
+    ensures { result ≡ enclosed (whole_row region.now) p.now.y p.now.z }
 {
     let level = walled(region, p);
     let above = whole_row(region, &row_above(p));
@@ -33,8 +30,7 @@ fn enclosed(region: &Region, p: &Pos) -> Interval
 
 /// The part of the whole shape's row of a position that doesn't belong to the region.
 pub(crate) fn core_row(region: &Region, p: &Pos) -> Interval
-    ensures value { result ≡ core_row region.now p.now.y p.now.z }
-    ensures near { IsWithin 68719476736 result }
+    ensures { result ≡ core_row region.now p.now.y p.now.z }
 {
     match region {
         Region::Selected(_) => nowhere(),

@@ -1,101 +1,148 @@
 //! Intervals of one coordinate.
 
-ghost use Rattle.std.specs.Prelude.{◌≡◌, ◌<◌, ◌^◌, ◌≤ℤ◌};
-ghost use Rattle.region_shapes.specs.Interval.{is_among, is_empty, nowhere, around, common, shrunk, below, above, IsWithin};
+ghost use Rattle.std.specs.Prelude.{◌≡◌, ◌+◌, ◌*◌, ◌<◌, ◌≤◌, ◌^◌, pos, negsuc, ◌+ℤ◌, ◌-ℤ◌, ◌≤ℤ◌, ◌<ℤ◌, FitsSigned};
+ghost use Rattle.std.specs.Int.{w32, int_min};
+ghost use Rattle.edit_terms.specs.Frame.{count_between};
+ghost use Rattle.region_shapes.specs.Interval.{is_among, is_empty, size, nowhere, numbers_from, between, around, common, shifted, shrunk, below, above, IsNear};
 
-use edit_terms::Pos;
-
-/// The numbers from the low end to the high one; none where that is lower.
+/// The numbers from the one end up to but without the other; none where that isn't greater.
 #[derive(Clone, Copy, Debug)]
-pub(crate) struct Interval {
-    pub(crate) low: i64,
-    pub(crate) high: i64,
+pub struct Interval {
+    pub from: i64,
+    pub to: i64,
 }
 
 /// An interval without numbers.
 pub(crate) fn nowhere() -> Interval
     ensures value { result ≡ nowhere }
-    ensures near { IsWithin 34359738368 result }
+    ensures near { IsNear result }
 {
-    Interval { low: 1, high: 0 }
+    Interval { from: 0, to: 0 }
 }
 
-/// The numbers at most so far from a position's x.
-pub(crate) fn around(middle: &Pos, reach: u64) -> Interval
-    requires { reach < 2 ^ 34 }
-    ensures value { result ≡ around middle.now.x reach }
-    ensures near { IsWithin 34359738368 result }
+/// So many numbers from one on.
+pub fn numbers_from(low: i32, size: u32) -> Interval
+    ensures value { result ≡ numbers_from low size }
+    ensures near { IsNear result }
 {
-    let x = i64::from(middle.x);
+    let from = i64::from(low);
     Interval {
-        low: x - reach as i64,
-        high: x + reach as i64,
+        from,
+        to: from + i64::from(size),
     }
 }
 
-/// True exactly for a position whose x is among the numbers.
-pub(crate) fn is_among(interval: &Interval, p: &Pos) -> bool
-    ensures { result ≡ is_among interval.now p.now.x }
+/// Two numbers and those between them.
+pub(crate) fn between(first: i32, second: i32) -> Interval
+    ensures value { result ≡ between first second }
+    ensures near { IsNear result }
 {
-    let x = i64::from(p.x);
-    interval.low <= x && x <= interval.high
+    ordered(i64::from(first), i64::from(second))
 }
 
-pub(crate) fn is_empty(interval: &Interval) -> bool
+fn ordered(first: i64, second: i64) -> Interval
+    requires first { FitsSigned w32 first }
+    requires second { FitsSigned w32 second }
+    ensures from { result.from ≡ int_min first second }
+    ensures to { result.to ≡ int_min first second +ℤ pos (count_between first second) }
+    ensures near { IsNear result }
+{
+    if first < second {
+        return Interval {
+            from: first,
+            to: second + 1,
+        };
+    }
+    Interval {
+        from: second,
+        to: first + 1,
+    }
+}
+
+/// The numbers at most so far from one.
+pub(crate) fn around(middle: i32, reach: u64) -> Interval
+    requires { reach < 2 ^ 34 }
+    ensures value { result ≡ around middle reach }
+    ensures near { IsNear result }
+{
+    let from = i64::from(middle) - reach as i64;
+    Interval {
+        from,
+        to: from + (2 * reach + 1) as i64,
+    }
+}
+
+/// True exactly for one of the numbers.
+pub fn is_among(interval: &Interval, number: i32) -> bool
+    ensures { result ≡ is_among interval.now number }
+{
+    let number = i64::from(number);
+    interval.from <= number && number < interval.to
+}
+
+/// True exactly where there is no number.
+pub fn is_empty(interval: &Interval) -> bool
     ensures { result ≡ is_empty interval.now }
 {
-    interval.high < interval.low
+    interval.to <= interval.from
 }
 
 /// The numbers of both.
-pub(crate) fn common(first: &Interval, second: &Interval) -> Interval
-    requires first { IsWithin 68719476736 first.now }
-    requires second { IsWithin 68719476736 second.now }
+pub fn common(first: &Interval, second: &Interval) -> Interval
     ensures value { result ≡ common first.now second.now }
-    ensures near { IsWithin 68719476736 result }
-    ensures low { second.now.low ≤ℤ result.low }
-    ensures high { result.high ≤ℤ second.now.high }
+    ensures from { second.now.from ≤ℤ result.from }
+    ensures to { result.to ≤ℤ second.now.to }
 {
     Interval {
-        low: first.low.max(second.low),
-        high: first.high.min(second.high),
+        from: first.from.max(second.from),
+        to: first.to.min(second.to),
+    }
+}
+
+/// The numbers so far above; below, where that is negative.
+pub fn shifted(interval: &Interval, by: i64) -> Interval
+    requires near { IsNear interval.now }
+    requires low { negsuc 68719476735 ≤ℤ by }
+    requires high { by ≤ℤ pos 68719476736 }
+    ensures { result ≡ shifted by interval.now }
+{
+    Interval {
+        from: interval.from + by,
+        to: interval.to + by,
     }
 }
 
 /// The numbers without the first and the last.
 pub(crate) fn shrunk(interval: &Interval) -> Interval
-    requires { IsWithin 34359738368 interval.now }
-    ensures value { result ≡ shrunk interval.now }
-    ensures near { IsWithin 68719476736 result }
+    requires { IsNear interval.now }
+    ensures { result ≡ shrunk interval.now }
 {
     Interval {
-        low: interval.low + 1,
-        high: interval.high - 1,
+        from: interval.from + 1,
+        to: interval.to - 1,
     }
 }
 
 /// The numbers below a part that isn't empty.
 pub(crate) fn below(part: &Interval, interval: &Interval) -> Interval
-    requires { IsWithin 68719476736 part.now }
     ensures value { result ≡ below part.now interval.now }
-    ensures low { interval.now.low ≤ℤ result.low }
-    ensures high { result.high ≤ℤ interval.now.high }
+    ensures from { interval.now.from ≤ℤ result.from }
+    ensures to { result.to ≤ℤ interval.now.to }
 {
     Interval {
-        low: interval.low,
-        high: interval.high.min(part.low - 1),
+        from: interval.from,
+        to: interval.to.min(part.from),
     }
 }
 
 /// The numbers above a part that isn't empty.
 pub(crate) fn above(part: &Interval, interval: &Interval) -> Interval
-    requires { IsWithin 68719476736 part.now }
     ensures value { result ≡ above part.now interval.now }
-    ensures low { interval.now.low ≤ℤ result.low }
-    ensures high { result.high ≤ℤ interval.now.high }
+    ensures from { interval.now.from ≤ℤ result.from }
+    ensures to { result.to ≤ℤ interval.now.to }
 {
     Interval {
-        low: interval.low.max(part.high + 1),
-        high: interval.high,
+        from: interval.from.max(part.to),
+        to: interval.to,
     }
 }

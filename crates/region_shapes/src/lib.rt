@@ -15,13 +15,15 @@ mod membership;
 mod root;
 mod row;
 mod row_spans;
-mod shared;
 mod span;
 mod span_iter;
 mod whole;
 
 pub use bounding::bounds;
-pub use chunk_index::{chunks_of, is_part};
+pub use chunk_index::chunks_of;
+pub use extent::{Extent, common_extent, extent_of, is_in_extent, is_without};
+pub use frame::{frame_of, frame_of_selection};
+pub use interval::{Interval, common, is_among, is_empty, numbers_from, shifted};
 pub use membership::contains;
 pub use span::Span;
 pub use span_iter::{SpanIter, rows};

@@ -1,12 +1,13 @@
 //! The spans of one row of a region in a box.
 
 ghost use Rattle.std.specs.Prelude.{◌≡◌, ◌-◌, ◌*◌, ◌/◌, ◌%◌, ◌<◌, ◌++◌, [], ◌∷◌, MatchOption, pos, negsuc, ◌+ℤ◌, ◌-ℤ◌, ◌≤ℤ◌, ◌<ℤ◌};
-ghost use Rattle.edit_terms.specs.Frame.{count_up_to};
 ghost use Rattle.std.specs.Option.{option_to_list};
-ghost use Rattle.region_shapes.specs.Interval.{IsWithin};
-ghost use Rattle.region_shapes.specs.SpansLeft.{span_of, width_of, row_spans, numbered_spans, spans_from};
+ghost use Rattle.region_shapes.specs.Extents.{IsPartOfMap};
+ghost use Rattle.region_shapes.specs.SpansLeft.{span_of, row_spans, numbered_spans, spans_from};
 ghost use Rattle.region_shapes.specs.RowSpans.{listed};
 
+use crate::bounding::{first, size};
+use crate::extent::extent_of;
 use crate::hollow::core_row;
 use crate::interval::{Interval, above, below, common, is_empty};
 use crate::row::row_at;
@@ -21,68 +22,22 @@ pub(crate) struct RowSpans {
     pub(crate) second: Option<Span>,
 }
 
-fn numbers_from(least: &Pos, width: u32) -> Interval
-    requires from { negsuc 33554431 ≤ℤ least.now.x }
-    requires to { (least.now.x +ℤ pos width) ≤ℤ pos 33554432 }
-    ensures value { result ≡ record { low = least.now.x; high = least.now.x +ℤ pos width -ℤ pos 1 } }
-    ensures low { negsuc 33554431 ≤ℤ result.low }
-    ensures high { result.high ≤ℤ pos 33554431 }
-    ensures near { IsWithin 68719476736 result }
-{
-    let low = i64::from(least.x);
-    Interval {
-        low,
-        high: low + i64::from(width) - 1,
-    }
-}
-
-/// The coordinates x of a box.
-#[tactic(auto, using(edit_terms::proofs::AreaLemmas::on_map))]
-fn width_of(area: &WorldBox) -> Interval
-    ensures value { result ≡ width_of area.now }
-    ensures low { negsuc 33554431 ≤ℤ result.low }
-    ensures high { result.high ≤ℤ pos 33554431 }
-    ensures near { IsWithin 68719476736 result }
-{
-    area.well_formed();
-    numbers_from(&area.least(), area.width())
-}
-
-fn first_of(p: &Pos, interval: &Interval) -> Pos
-    requires low { negsuc 33554431 ≤ℤ interval.now.low }
-    requires high { interval.now.low ≤ℤ pos 33554431 }
-    ensures x { result.x ≡ interval.now.low }
-    ensures y { result.y ≡ p.now.y }
-    ensures z { result.z ≡ p.now.z }
-{
-    Pos {
-        x: interval.low as i32,
-        y: p.y,
-        z: p.z,
-    }
-}
-
-fn count_of(interval: &Interval) -> u32
-    requires low { negsuc 33554431 ≤ℤ interval.now.low }
-    requires high { interval.now.high ≤ℤ pos 33554431 }
-    requires some { interval.now.low ≤ℤ interval.now.high }
-    ensures { result ≡ count_up_to (interval.now.high +ℤ pos 1 -ℤ interval.now.low) }
-{
-    (interval.high + 1 - interval.low) as u32
-}
-
 /// The span of an interval's positions in a position's row. None exactly where there are none.
 fn span_of(p: &Pos, interval: &Interval) -> Option<Span>
-    requires low { negsuc 33554431 ≤ℤ interval.now.low }
-    requires high { interval.now.high ≤ℤ pos 33554431 }
+    requires { IsPartOfMap interval.now }
     ensures { option_to_list result ≡ span_of p.now.y p.now.z interval.now }
 {
     if is_empty(interval) {
         return None;
     }
+    let least = Pos {
+        x: first(interval),
+        y: p.y,
+        z: p.z,
+    };
     Some(Span {
-        least: first_of(p, interval),
-        count: count_of(interval),
+        least,
+        count: size(interval),
     })
 }
 
@@ -106,7 +61,7 @@ fn one_or_two(first: Option<Span>, second: Option<Span>) -> Option<RowSpans>
 fn row_spans(region: &Region, area: &WorldBox, p: &Pos) -> Option<RowSpans>
     ensures { listed result ≡ row_spans region.now area.now p.now.y p.now.z }
 {
-    let cut = common(&whole_row(region, &row_at(p)), &width_of(area));
+    let cut = common(&whole_row(region, &row_at(p)), &extent_of(area).x);
     if is_empty(&cut) {
         return None;
     }

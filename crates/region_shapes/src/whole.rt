@@ -1,12 +1,12 @@
 //! The rows of whole shapes.
 
 ghost use Rattle.std.specs.Prelude.{◌≡◌, ◌+◌, ◌*◌, ◌<◌, ◌≤◌, ◌^◌, nat_abs};
-ghost use Rattle.std.specs.Int.{int_min, int_max};
 ghost use Rattle.edit_terms.specs.Area.{is_from};
 ghost use Rattle.edit_terms.specs.Region.{is_between, flat_distance, distance};
-ghost use Rattle.region_shapes.specs.Interval.{IsWithin};
+ghost use Rattle.region_shapes.specs.Interval.{IsNear};
 ghost use Rattle.region_shapes.specs.Rows.{disc_row, reach_limit, cuboid_row, sphere_row, cylinder_row, shape_row, ball_row, tube_row, whole_row, IsBounded};
 
+use crate::frame::between_x;
 use crate::gaps::{squared_x, squared_y, squared_z};
 use crate::interval::{Interval, around, nowhere};
 use crate::root::root;
@@ -65,27 +65,17 @@ fn is_from_y(least: &Pos, height: u32, row: &Row) -> bool
 fn disc_row(middle: &Pos, limit: u128, used: u128) -> Interval
     requires { limit < 2 ^ 68 }
     ensures value { result ≡ disc_row middle.now.x limit used }
-    ensures near { IsWithin 34359738368 result }
+    ensures near { IsNear result }
 {
     if used <= limit {
-        return around(middle, root(limit - used));
+        return around(middle.x, root(limit - used));
     }
     nowhere()
 }
 
-fn between_x(first: &Pos, second: &Pos) -> Interval
-    ensures value { result ≡ record { low = int_min first.now.x second.now.x; high = int_max first.now.x second.now.x } }
-    ensures near { IsWithin 34359738368 result }
-{
-    Interval {
-        low: i64::from(first.x.min(second.x)),
-        high: i64::from(first.x.max(second.x)),
-    }
-}
-
 fn cuboid_row(first: &Pos, second: &Pos, row: &Row) -> Interval
     ensures value { result ≡ cuboid_row first.now second.now row.now.y row.now.z }
-    ensures near { IsWithin 34359738368 result }
+    ensures near { IsNear result }
 {
     if is_between_y(first, second, row) && is_between_z(first, second, row) {
         return between_x(first, second);
@@ -95,7 +85,7 @@ fn cuboid_row(first: &Pos, second: &Pos, row: &Row) -> Interval
 
 fn sphere_row(first: &Pos, second: &Pos, row: &Row) -> Interval
     ensures value { result ≡ sphere_row first.now second.now row.now.y row.now.z }
-    ensures near { IsWithin 34359738368 result }
+    ensures near { IsNear result }
 {
     disc_row(
         first,
@@ -106,7 +96,7 @@ fn sphere_row(first: &Pos, second: &Pos, row: &Row) -> Interval
 
 fn cylinder_row(first: &Pos, second: &Pos, row: &Row) -> Interval
     ensures value { result ≡ cylinder_row first.now second.now row.now.y row.now.z }
-    ensures near { IsWithin 34359738368 result }
+    ensures near { IsNear result }
 {
     if is_between_y(first, second, row) {
         return disc_row(first, flat_limit(first, second), squared_z(first, row));
@@ -117,7 +107,7 @@ fn cylinder_row(first: &Pos, second: &Pos, row: &Row) -> Interval
 /// The row of a selection.
 pub(crate) fn shape_row(s: &Selection, row: &Row) -> Interval
     ensures value { result ≡ shape_row s.now.kind s.now.first s.now.second row.now.y row.now.z }
-    ensures near { IsWithin 34359738368 result }
+    ensures near { IsNear result }
 {
     match s.kind {
         Kind::Cuboid => cuboid_row(&s.first, &s.second, row),
@@ -129,7 +119,7 @@ pub(crate) fn shape_row(s: &Selection, row: &Row) -> Interval
 /// The row of a ball.
 pub(crate) fn ball_row(centre: &Pos, radius: u32, row: &Row) -> Interval
     ensures value { result ≡ ball_row centre.now radius row.now.y row.now.z }
-    ensures near { IsWithin 34359738368 result }
+    ensures near { IsNear result }
 {
     disc_row(
         centre,
@@ -141,7 +131,7 @@ pub(crate) fn ball_row(centre: &Pos, radius: u32, row: &Row) -> Interval
 /// The row of an upright cylinder of so many heights from the centre's up.
 pub(crate) fn tube_row(centre: &Pos, radius: u32, height: u32, row: &Row) -> Interval
     ensures value { result ≡ tube_row centre.now radius height row.now.y row.now.z }
-    ensures near { IsWithin 34359738368 result }
+    ensures near { IsNear result }
 {
     if is_from_y(centre, height, row) {
         return disc_row(centre, reach_limit(radius), squared_z(centre, row));
@@ -152,7 +142,7 @@ pub(crate) fn tube_row(centre: &Pos, radius: u32, height: u32, row: &Row) -> Int
 /// The row of the whole shape that a region is, or is the walls, faces or shell of.
 pub(crate) fn whole_row(region: &Region, row: &Row) -> Interval
     ensures value { result ≡ whole_row region.now row.now.y row.now.z }
-    ensures near { IsWithin 34359738368 result }
+    ensures near { IsNear result }
 {
     match region {
         Region::Selected(s) => shape_row(s, row),

@@ -3,7 +3,7 @@
 use crate::words::{area_of, box_of, pos_of, put, put_box, put_maybe, put_pos};
 use case_lines::push_number;
 use edit_terms::{Pos, WorldBox};
-use region_shapes::{chunks_of, is_part};
+use region_shapes::chunks_of;
 use std::alloc::Global;
 
 /// `box BOX`: a box, how many blocks it has and how many chunks it touches, or none where no world has such a box.
@@ -60,7 +60,7 @@ pub(crate) fn chunks(alloc: Global, input: &str, answer: &mut Vec<u8>) -> Option
     let (word, rest) = input.split_once(' ')?;
     let area = area_of(word)?;
     let part = area_of(rest)?;
-    if !is_part(&part, &area) {
+    if !part.is_part_of(&area) {
         return put(answer, "no part");
     }
     let chunks = chunks_of(alloc, &part, &area).ok()?;

@@ -63,7 +63,7 @@ fn tube_of(words: &str, hollow: bool) -> Option<Region> {
 /// `inside POSITION REGION`: whether a position is of a region.
 pub(crate) fn inside(input: &str, answer: &mut Vec<u8>) -> Option<()> {
     let (p, rest) = input.split_once(' ')?;
-    let is_inside = contains(&region_of(rest)?, pos_of(p)?);
+    let is_inside = contains(&region_of(rest)?, &pos_of(p)?);
     put(answer, if is_inside { "inside" } else { "outside" })
 }
 

@@ -55,7 +55,7 @@ pub(crate) fn agree(alloc: Global, input: &str, answer: &mut Vec<u8>) -> Option<
 fn told_of(alloc: Global, region: &Region, area: &WorldBox) -> Option<Vec<u32>> {
     let mut told = Vec::new(alloc);
     for index in 0..area.volume() {
-        if contains(region, area.position(index)?) {
+        if contains(region, &area.position(index)?) {
             told.push(index).ok()?;
         }
     }

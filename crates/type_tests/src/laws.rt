@@ -6,33 +6,33 @@ use std::alloc::Global;
 
 #[test]
 fn laws_of_terms_return(_rt: HostRuntime) {
-    edit_terms::index_and_position();
-    edit_terms::written_form();
-    edit_terms::one_state_a_text();
-    edit_terms::states_and_faults();
-    edit_terms::sorting_properties();
-    edit_terms::replacing_properties();
-    edit_terms::double_negation();
-    edit_terms::noise_of_none_and_all();
-    edit_terms::some_entry_is_chosen();
-    edit_terms::the_only_entry_is_chosen();
+    edit_terms::laws::index_and_position();
+    edit_terms::laws::written_form();
+    edit_terms::laws::one_state_a_text();
+    edit_terms::laws::states_and_faults();
+    edit_terms::laws::sorting_properties();
+    edit_terms::laws::replacing_properties();
+    edit_terms::laws::double_negation();
+    edit_terms::laws::noise_of_none_and_all();
+    edit_terms::laws::some_entry_is_chosen();
+    edit_terms::laws::the_only_entry_is_chosen();
 }
 
 #[test]
 fn laws_of_places_return(_rt: HostRuntime) {
-    edit_terms::four_quarter_turns();
-    edit_terms::two_flips();
-    edit_terms::flip_along_z();
-    edit_terms::inverse_transform();
-    edit_terms::turns_after_a_transform();
-    edit_terms::flip_after_a_transform();
-    edit_terms::turned_states_are_states();
-    edit_terms::region_in_whole();
-    edit_terms::region_in_frame();
-    edit_terms::root_is_greatest();
-    edit_terms::box_in_common();
-    edit_terms::clipboard_cells_lie_in_its_bounds();
-    edit_terms::boxes_of_a_clipboard();
+    edit_terms::laws::four_quarter_turns();
+    edit_terms::laws::two_flips();
+    edit_terms::laws::flip_along_z();
+    edit_terms::laws::inverse_transform();
+    edit_terms::laws::turns_after_a_transform();
+    edit_terms::laws::flip_after_a_transform();
+    edit_terms::laws::turned_states_are_states();
+    edit_terms::laws::region_in_whole();
+    edit_terms::laws::region_in_frame();
+    edit_terms::laws::root_is_greatest();
+    edit_terms::laws::box_in_common();
+    edit_terms::laws::clipboard_cells_lie_in_its_bounds();
+    edit_terms::laws::boxes_of_a_clipboard();
 }
 
 #[test]

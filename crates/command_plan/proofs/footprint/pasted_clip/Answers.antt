@@ -12,4 +12,4 @@ returns-in-Some c =
     let area = c.args.area.now in
     let place = c.args.place.now in
     pasted_some area place (clip_box_of c.args.clip.now area) c.in-Some.bounds c.of_one.result c.in-Some.ensures
-    (λ box is. c.of_one.ensures area (record box { least = placed_at place box.least } ∷ []) (c.cut.ensures (record box { least = placed_at place box.least }) (c.placed_frame.ensures box is)))
+    (λ box is. c.of_one.ensures area (record box { least = placed_at place box.least } ∷ []) (c.cut.ensures (record box { least = placed_at place box.least }) (c.placed_extent.ensures box is)))

@@ -1,5 +1,0 @@
-use Rattle.edit_terms.proofs.RegionLemmas.{root_is}
-use Rattle.edit_terms.proofs.region_laws.root_is_greatest.Goals as goal
-
-pub returns : goal.returns
-returns c n below = root_is n below
