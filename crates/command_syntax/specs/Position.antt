@@ -1,17 +1,17 @@
 -- Positions of a script.
 use Rattle.std.specs.Prelude.{ℕ, ℤ, if◌then◌else◌, List, [], ◌∷◌, Option, Some, Result, Ok, Err}
 use Rattle.edit_terms.specs.declared.pos.Pos.{Pos}
-use Rattle.run_terms.specs.Limits.{is_position_within}
+use Rattle.edit_terms.specs.Area.{is_on_map}
 use Rattle.command_syntax.specs.Text.{comma, parts}
 use Rattle.command_syntax.specs.Number.{number_of}
 use Rattle.command_syntax.specs.declared.fault.LineFault.{LineFault}
 use Rattle.command_syntax.specs.declared.fault.LineFault.TheVariants.{BadNumber, OutOfLimit}
 
--- the position of three numbers, if it is within the limits
+-- the position of three numbers, if it is on the map
 abbrev pub position_at : Option ℤ → Option ℤ → Option ℤ → Result Pos LineFault
 position_at (Some x) (Some y) (Some z) =
     let p : Pos = record { x = x; y = y; z = z } in
-    if is_position_within p then Ok p else Err OutOfLimit
+    if is_on_map p then Ok p else Err OutOfLimit
 position_at _ _ _ = Err BadNumber
 
 -- the position of a word that was cut at its commas

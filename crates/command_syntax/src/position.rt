@@ -1,7 +1,6 @@
 //! Positions of a script.
 ghost use Rattle.std.specs.Prelude.{◌≡◌, true, negsuc, Option, Some, None, IfOk};
-ghost use Rattle.edit_terms.specs.Area.{is_from};
-ghost use Rattle.run_terms.specs.Limits.{is_position_within};
+ghost use Rattle.edit_terms.specs.Area.{is_from, is_on_map};
 ghost use Rattle.command_syntax.specs.Number.{number_of};
 ghost use Rattle.command_syntax.specs.Position.{position_at, position_of};
 ghost use Rattle.command_syntax.specs.Read.{Gives};
@@ -16,7 +15,7 @@ use edit_terms::Pos;
 #[tactic(auto, using(crate::proofs::Positions::position_of_three, crate::proofs::Positions::position_of_others))]
 pub(crate) fn position_of(word: &[u8]) -> Result<Pos, Stop>
     ensures read { Gives (λ p. p) (position_of word.now) result }
-    ensures within { IfOk result (λ p. is_position_within p ≡ true) }
+    ensures within { IfOk result (λ p. is_on_map p ≡ true) }
 {
     let Some((x, y, z)) = three_parts(word, b',') else {
         return Err(Stop::Fault(LineFault::BadNumber));
@@ -26,7 +25,7 @@ pub(crate) fn position_of(word: &[u8]) -> Result<Pos, Stop>
 
 fn position_from(x: &[u8], y: &[u8], z: &[u8]) -> Result<Pos, Stop>
     ensures read { Gives (λ p. p) (position_at (number_of x.now) (number_of y.now) (number_of z.now)) result }
-    ensures within { IfOk result (λ p. is_position_within p ≡ true) }
+    ensures within { IfOk result (λ p. is_on_map p ≡ true) }
 {
     let Some(x) = number_of(x) else {
         return Err(Stop::Fault(LineFault::BadNumber));
@@ -42,7 +41,7 @@ fn position_from(x: &[u8], y: &[u8], z: &[u8]) -> Result<Pos, Stop>
 
 fn position_at(x: &i64, y: &i64, z: &i64) -> Result<Pos, Stop>
     ensures read { Gives (λ p. p) (position_at (Some x.now) (Some y.now) (Some z.now)) result }
-    ensures within { IfOk result (λ p. is_position_within p ≡ true) }
+    ensures within { IfOk result (λ p. is_on_map p ≡ true) }
 {
     if is_across(x) && is_high(y) && is_across(z) {
         return Ok(position(x, y, z));
