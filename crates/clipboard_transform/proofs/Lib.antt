@@ -1,2 +1,3 @@
 mod BoundsLemmas
 mod Corners
+pub mod MapLemmas

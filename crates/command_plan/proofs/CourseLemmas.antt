@@ -14,19 +14,19 @@ use Rattle.edit_terms.specs.declared.step.Step.TheVariants.{Settled}
 use Rattle.edit_terms.specs.Area.{Area}
 use Rattle.run_terms.specs.Limits.{is_command_within}
 use Rattle.run_terms.specs.Session.{Session, opening_session, session_after, step_of_line, resolved_command, after_command}
+use Rattle.run_terms.specs.SessionLimits.{IsSessionWithin}
 use Rattle.run_terms.proofs.Earlier.{session_has_taken}
+use Rattle.run_terms.proofs.SessionLimitLemmas.{opening_within, session_within}
 use Rattle.command_plan.specs.declared.footprint.Footprint.{Footprint}
 use Rattle.command_plan.specs.Courses.{footprint_at, no_footprint}
 use Rattle.command_plan.specs.Footprints.{IsFootprint}
 use Rattle.command_plan.specs.Taken.{IsTaken}
-use Rattle.command_plan.specs.Within.{IsSessionWithin}
-use Rattle.command_plan.proofs.SessionLemmas.{session_within}
 
 pub taken_none : (area : Area) (player depth : ℕ) (lines : List Line) (session : Session) (steps : List Step) (fs : List Footprint)
     → session ≡ opening_session player depth → steps ≡ [] → fs ≡ [] → IsTaken area player depth lines 0 session steps fs
 taken_none area player depth lines session steps fs opening none none_too = record {
   session_is = opening;
-  within = subst (λ (s : Session). IsSessionWithin s) (sym opening) (record { place = tt; clip = tt });
+  within = subst (λ (s : Session). IsSessionWithin s) (sym opening) (opening_within player depth);
   resolved = record { steps_are = none; many = ap (λ (xs : List Footprint). length xs) none_too; each = λ n below. absurd (omega (arith, below)) };
 }
 
@@ -70,7 +70,7 @@ taken_more area player depth lines k line old new step f steps more fs gs within
     let was = taken.resolved in
     record {
       session_is = after ∙ session;
-      within = subst (λ (s : Session). IsSessionWithin s) (sym after) (session_within old line.command taken.within limits);
+      within = subst (λ (s : Session). IsSessionWithin s) (sym after) (session_within old taken.within line.command limits);
       resolved = record {
         steps_are = more_is ∙ ap (λ (ss : List Step). ss ++ step ∷ []) was.steps_are ∙ ap (λ (s : Step). map (step_of_line player depth lines) (range_with_len 0 k) ++ s ∷ []) own
             ∙ sym (map-range_with_len_more (step_of_line player depth lines) 0 k k (omega arith));

@@ -1,13 +1,20 @@
 -- Footprints of works whose boxes are told in another way.
-use Rattle.std.proofs.Common.{◌≡◌, ℕ, Bool, true, false, ◌||◌, refl, List, [], ◌∷◌, Option, Some, None, ℤ, pos, ◌+ℤ◌, sym, ◌∙◌, arith}
+use Rattle.std.proofs.Common.{◌≡◌, ℕ, Bool, true, false, ◌||◌, refl, List, [], ◌∷◌, Option, Some, None, ℤ, pos, ◌+ℤ◌, ◌≤◌, subst, sym, ◌∙◌, arith}
 use Rattle.std.proofs.lemmas.Int.{ints}
 use Rattle.std.specs.Prelude.{option_map}
 use Rattle.std.specs.List.{list_any}
+use Rattle.std.proofs.lemmas.Bool.{and_parts}
 use Rattle.edit_terms.specs.declared.direction.Direction.{Direction}
 use Rattle.edit_terms.specs.declared.pos.Pos.{Pos}
+use Rattle.edit_terms.specs.declared.region.Selection.{Selection}
+use Rattle.edit_terms.specs.declared.step.Work.{Work}
+use Rattle.edit_terms.specs.declared.step.Work.TheVariants.{Stack}
 use Rattle.edit_terms.specs.Area.{Area}
 use Rattle.edit_terms.specs.Clipboard.{placed_at}
 use Rattle.run_terms.specs.Access.{is_chunk_of_box, stacked_boxes, pasted_boxes}
+use Rattle.run_terms.specs.Limits.{is_count}
+use Rattle.run_terms.specs.SessionLimits.{is_selection_within, is_work_within}
+use Rattle.run_terms.proofs.LimitLemmas.{not_above}
 use Rattle.clipboard_transform.specs.declared.relative_box.RelativeBox.{RelativeBox}
 use Rattle.clipboard_transform.specs.Bounds.{corners, last_from}
 use Rattle.command_plan.specs.declared.rectangle.Spread.{Spread}
@@ -40,3 +47,8 @@ pub pasted_some : (area : Area) (place : Pos) (bounds : Option Area) (found : Re
     → ((box : Area) → found ≡ corners box → IsSpreadOf area (record box { least = placed_at place box.least } ∷ []) s) → IsSpreadOf area (pasted_boxes place bounds) s
 pasted_some area place None found s e is = absurd cc
 pasted_some area place (Some b) found s e is = is b cc
+
+-- a stack within the limits has at most 1,000 copies
+pub few_copies : (work : Work) (from : Selection) (count : ℕ) (to : Direction) → work ≡ Stack from count to → is_work_within work ≡ true → count ≤ 1000
+few_copies work from count to is within =
+    not_above 1 1000 count (and_parts (is_selection_within from) (is_count count) (subst (λ (w : Work). is_work_within w ≡ true) is within)).1

@@ -5,7 +5,6 @@ pub mod StackLemmas
 pub mod ChunkLemmas
 pub mod ListingLemmas
 pub mod FootprintLemmas
-pub mod SessionLemmas
 pub mod MarkLemmas
 pub mod CutLemmas
 pub mod PlayerLemmas
@@ -13,5 +12,4 @@ pub mod CourseLemmas
 pub mod WriteLemmas
 pub mod KeepLemmas
 pub mod PlanLemmas
-pub mod LimitLemmas
 pub mod LawLemmas

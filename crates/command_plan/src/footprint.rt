@@ -3,13 +3,12 @@
 ghost use Rattle.std.specs.Prelude.{◌≡◌, ◌≤◌, ◌∷◌, [], IfSome, Some, None};
 ghost use Rattle.std.specs.Option.{option_and_then};
 ghost use Rattle.edit_terms.specs.Area.{Area};
-ghost use Rattle.clipboard_transform.specs.Bounds.{IsOnMap};
 ghost use Rattle.edit_terms.specs.Clipboard.{clip_box_of};
 ghost use Rattle.edit_terms.specs.Frame.{frame_of, frame_of_selection};
 ghost use Rattle.run_terms.specs.Access.{moved_box, stacked_boxes, single_box, pasted_boxes};
+ghost use Rattle.run_terms.specs.SessionLimits.{IsClipWithin, IsSpecWithin, IsStepWithin};
 ghost use Rattle.command_plan.specs.Cuts.{IsCutOf, IsSpreadOf};
 ghost use Rattle.command_plan.specs.Footprints.{IsFootprint, IsWorkFootprint};
-ghost use Rattle.command_plan.specs.Within.{IsStepWithin, IsSpecWithin};
 
 use crate::cutting::cut;
 use crate::frame::{placed_extent, single_extent};
@@ -70,8 +69,9 @@ fn single(at: &Pos, area: &WorldBox) -> Spread
     of_one(cut(&single_extent(at), area))
 }
 
+#[tactic(auto, using(clipboard_transform::proofs::MapLemmas::on_map))]
 fn pasted_clip(place: &Pos, clip: &Clip, area: &WorldBox) -> Spread
-    requires { IsOnMap clip.now.origin }
+    requires { IsClipWithin clip.now }
     ensures { IsSpreadOf area.now (pasted_boxes place.now (clip_box_of clip.now area.now)) result }
 {
     match clip_box(clip, area) {
@@ -81,7 +81,7 @@ fn pasted_clip(place: &Pos, clip: &Clip, area: &WorldBox) -> Spread
 }
 
 fn pasted(place: &Pos, clip: &Option<Clip>, area: &WorldBox) -> Spread
-    requires { IfSome clip.now (λ c. IsOnMap c.origin) }
+    requires { IfSome clip.now IsClipWithin }
     ensures { IsSpreadOf area.now (pasted_boxes place.now (option_and_then (λ c. clip_box_of c area.now) clip.now)) result }
 {
     match clip {
@@ -101,6 +101,7 @@ fn untouched() -> Footprint
     }
 }
 
+#[tactic(auto, using(crate::proofs::FootprintLemmas::few_copies))]
 fn of_spec(spec: &Spec, area: &WorldBox) -> Footprint
     requires { IsSpecWithin spec.now }
     ensures { IsWorkFootprint area.now spec.now.clip spec.now.work result }

@@ -28,7 +28,7 @@ fn no_marks(alloc: Global, floor: &Floor) -> Result<Vec<bool>, Memory>
 }
 
 /// The commands of a player.
-#[tactic(auto, using(crate::proofs::LimitLemmas::some_depth, crate::proofs::LimitLemmas::few_depth, crate::proofs::LimitLemmas::script_within, crate::proofs::LimitLemmas::lines_are))]
+#[tactic(auto, using(run_terms::proofs::LimitLemmas::some_depth, run_terms::proofs::LimitLemmas::few_depth, run_terms::proofs::LimitLemmas::script_within, run_terms::proofs::LimitLemmas::lines_are))]
 fn course_of(alloc: Global, case: &Case, player: u32) -> Result<Course, Memory>
     requires limits { IsWithinLimits (workload_of case.now) }
     requires player { player < length case.now.scripts }
@@ -45,7 +45,7 @@ fn course_of(alloc: Global, case: &Case, player: u32) -> Result<Course, Memory>
 }
 
 /// The commands of all players.
-#[tactic(auto, using(crate::proofs::LimitLemmas::few_players))]
+#[tactic(auto, using(run_terms::proofs::LimitLemmas::few_players))]
 pub(crate) fn all_courses(alloc: Global, case: &Case) -> Result<Vec<Course>, Memory>
     requires { IsWithinLimits (workload_of case.now) }
     ensures { IfOk result (λ courses. AreCourses (workload_of case.now) (length case.now.scripts) courses.items) }

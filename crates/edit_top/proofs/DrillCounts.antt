@@ -19,12 +19,12 @@ use Rattle.edit_terms.specs.Grid.{world_of}
 use Rattle.state_counts.specs.Counts.{IsCensus}
 use Rattle.world_gen.specs.Drill.{drill_workload}
 use Rattle.run_terms.specs.Reply.{final_world}
+use Rattle.run_terms.proofs.LimitLemmas.{few_lines}
 use Rattle.run_terms.proofs.Lists.{map-range_agrees}
 use Rattle.run_terms.proofs.Tickets.{ticket_from-earlier, ticket_of-source_of}
 use Rattle.edit_top.specs.RunText.{name_of}
 use Rattle.edit_top.specs.DrillText.{changed_in, changed_by, changed_by_command, changed_in_turns, drill_text, player_text, players_changes, IsDrillText}
 use Rattle.edit_top.proofs.Printing.{range-more, turns_of-more, turns_of-other}
-use Rattle.edit_top.proofs.RoundLemmas.{few_lines}
 
 -- ---- sums over the first numbers
 

@@ -8,14 +8,12 @@ use Rattle.std.proofs.lemmas.List.Elements.{All-take}
 use Rattle.std.proofs.lemmas.List.Sums.{sum_by-append, sum_by-cons}
 use Rattle.std.proofs.lemmas.Option.{slice_get_cases}
 use Rattle.edit_terms.specs.declared.outcome.Outcome.{Outcome}
-use Rattle.edit_terms.specs.declared.script.Case.{Case}
 use Rattle.edit_terms.specs.declared.script.Line.{Line}
 use Rattle.edit_terms.specs.declared.script.Script.{Script}
-use Rattle.edit_terms.proofs.AreaLemmas.{and_both}
-use Rattle.run_terms.specs.Limits.{IsScriptWithin, IsWithinLimits}
 use Rattle.run_terms.specs.Order.{IsLegalOrder, IsWholeOrder, lines_of, turns_of}
 use Rattle.run_terms.specs.Reply.{replies_of, final_world, IsOutcome}
 use Rattle.run_terms.specs.Workload.{Workload, workload_of}
+use Rattle.run_terms.proofs.LimitLemmas.{lines_are}
 use Rattle.run_terms.proofs.OrderLemmas.{legal_from_whole, lines_of-past}
 use Rattle.serial_model.specs.declared.plain_error.PlainError.{PlainError}
 use Rattle.serial_model.specs.declared.plain_error.PlainError.TheVariants.{Illegal}
@@ -35,14 +33,6 @@ one_turn player acting false = refl
 -- a player has had the turn of a round where it is due and the player stands before this one
 abbrev pub turn_before : (round : ℕ) (scripts : List Script) (count player : ℕ) → ℕ
 turn_before round scripts count player = cond (ltb player count) (cond (ltb round (length (lines_of scripts player))) 1 0) 0
-
-lines_at : (scripts : List Script) (acting : ℕ) (script : Script) → acting < length scripts → script ≡ get_or scripts acting script → lines_of scripts acting ≡ script.lines
-lines_at scripts acting script within is = elim (slice_get_cases scripts acting).1 [
-  | inl found ↦
-      ap (λ (s : Option Script). option_map_or (λ (t : Script). t.lines) s []) found.2
-      ∙ ap (λ (t : Script). t.lines) (sym found.3 ∙ get_or_default scripts acting found.0 script within ∙ sym is)
-  | inr past ↦ absurd (omega (arith, within, past.0))
-]
 
 -- one more player of a round
 pub turn_more : (round : ℕ) (scripts : List Script) (acting : ℕ) (script : Script) (order : List ℕ) (due : Bool) (start player : ℕ) → acting < length scripts → script ≡ get_or scripts acting script
@@ -71,7 +61,7 @@ turn_more round scripts acting script order due start player within is is_due be
             let him : acting ≡ player = omega (arith, past, same) in
             let old : ltb player acting ≡ false = le-ltb player acting past in
             let new : ltb player (acting + 1) ≡ true = lt-ltb player (acting + 1) (omega (arith, him)) in
-            let lines : due ≡ ltb round (length (lines_of scripts player)) = is_due ∙ ap (λ (ls : List Line). ltb round (length ls)) (sym (lines_at scripts acting script within is)) ∙ ap (λ (p : ℕ). ltb round (length (lines_of scripts p))) him in
+            let lines : due ≡ ltb round (length (lines_of scripts player)) = is_due ∙ ap (λ (ls : List Line). ltb round (length ls)) (sym (lines_are scripts acting script within is)) ∙ ap (λ (p : ℕ). ltb round (length (lines_of scripts p))) him in
             let sum : turns_of player order ≡ start + 0 = before ∙ ap (λ (b : Bool). start + cond b (cond (ltb round (length (lines_of scripts player))) 1 0) 0) old in
             ap (λ (b : Bool). turns_of player order + cond due (cond b 1 0) 0) (eq-eqb acting player him)
             ∙ ap (λ (b : Bool). turns_of player order + cond b 1 0) lines
@@ -111,16 +101,6 @@ min_more round n = elim (cases_lt round n) [
   | inr past ↦ ap (λ (b : Bool). min round n + cond b 1 0) (le-ltb round n past) ∙ omega (arith, past)
 ]
 
--- a script has at most 10,000 commands
-pub few_lines : (scripts : List Script) → All IsScriptWithin scripts → (player : ℕ) → length (lines_of scripts player) ≤ 10000
-few_lines scripts all player = elim (slice_get_cases scripts player).1 [
-  | inl found ↦
-      let own : lines_of scripts player ≡ found.0.lines = ap (λ (s : Option Script). option_map_or (λ (t : Script). t.lines) s []) found.2 in
-      let within : IsScriptWithin found.0 = subst (λ (s : Script). IsScriptWithin s) found.3 (all player found.0 found.1) in
-      omega (arith, ap (λ (ls : List Line). length ls) own, within.lines)
-  | inr past ↦ omega (arith, ap (λ (ls : List Line). length ls) (lines_of-past scripts player past.0))
-]
-
 -- ---- the run of a whole order
 
 turns_fewer : (player n : ℕ) (order : List ℕ) → turns_of player (take n order) ≤ turns_of player order
@@ -149,6 +129,3 @@ is_outcome case order outcome whole ran = record {
   replies = ran.replies ∙ ap (replies_of case) (sym ran.order_is);
   world = ran.world ∙ ap (final_world case) (sym ran.order_is);
 }
-
-pub few_scripts : (case : Case) → IsWithinLimits (workload_of case) → length case.scripts ≤ 64
-few_scripts case limits = leb-true (length case.scripts) 64 (and_both (nat_le 1 (length case.scripts)) (nat_le (length case.scripts) 64) limits.scripts).1

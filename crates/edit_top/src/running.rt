@@ -12,7 +12,7 @@ use serial_model::{PlainError, plain_run};
 use std::alloc::Global;
 
 /// Runs the scripts in rounds, by the reference execution.
-#[tactic(auto, using(crate::proofs::RoundLemmas::not_illegal, crate::proofs::RoundLemmas::is_outcome, crate::proofs::RoundLemmas::few_scripts))]
+#[tactic(auto, using(crate::proofs::RoundLemmas::not_illegal, crate::proofs::RoundLemmas::is_outcome, run_terms::proofs::LimitLemmas::few_players))]
 pub(crate) fn run_scripts(alloc: Global, case: &Case) -> Result<Outcome, Memory>
     requires { IsWithinLimits (workload_of case.now) }
     ensures { IfOk result (IsOutcome (workload_of case.now)) }

@@ -23,6 +23,7 @@ use Rattle.edit_terms.specs.Clipboard.{CopiedBlocks, clipboard_of, no_blocks}
 use Rattle.edit_terms.specs.World.{World}
 use Rattle.run_terms.specs.Session.{Session, session_after, step_of_line, resolved_command, after_command, refusal_of, work_of, job_of}
 use Rattle.run_terms.specs.Limits.{is_command_within}
+use Rattle.run_terms.specs.SessionLimits.{IsSessionWithin}
 use Rattle.run_terms.specs.Workload.{Workload}
 use Rattle.run_terms.specs.Order.{lines_of, turns_of, player_of, ticket_of, step_of_command, step_of_ticket, AreTicketsNamed}
 use Rattle.run_terms.specs.Change.{Change, changes_between}
@@ -32,6 +33,7 @@ use Rattle.run_terms.specs.Reply.{reply_to, reply_of}
 use Rattle.run_terms.proofs.Lists.{map-agrees}
 use Rattle.run_terms.proofs.Earlier.{clip_of, session_has_taken, step_is_of_earlier}
 use Rattle.run_terms.proofs.FoldLemmas.{follows_from_earlier}
+use Rattle.run_terms.proofs.SessionLimitLemmas.{session_within}
 use Rattle.plain_terms.specs.Shown.{IsNumbered, world_shown}
 use Rattle.world_canvas.specs.declared.cell_change.CellChange.{CellChange}
 use Rattle.world_canvas.specs.Canvas.{Painting, IsGrown, shown}
@@ -43,8 +45,7 @@ use Rattle.serial_model.specs.Copying.{is_copying, IsOfCopy}
 use Rattle.serial_model.specs.Recorded.{Record, IsRecord, task_recorded}
 use Rattle.serial_model.specs.Acted.{IsActed}
 use Rattle.serial_model.specs.Folded.{session_at, IsCopied, IsPlayerAt, IsFolded}
-use Rattle.serial_model.specs.Within.{IsSessionWithin}
-use Rattle.serial_model.proofs.SessionLemmas.{session_within, clip_after}
+use Rattle.serial_model.proofs.ClipboardLemmas.{clip_after}
 use Rattle.serial_model.proofs.OrderLemmas.{turns_more, turns_same, source_is, ticket_is, legal_more, step_is, session_more}
 
 -- ---- contents keep their numbers
@@ -243,7 +244,7 @@ module _ (case : Workload) (order : List ℕ) (ticket number : ℕ) (within : ti
       pub player_goes_on : IsPlayerAt case order (suc ticket) new number after
       player_goes_on = record {
         session = session_is;
-        within = subst (λ (s : Session). IsSessionWithin s) (sym acted.session) (session_within before.session line.command at.within command);
+        within = subst (λ (s : Session). IsSessionWithin s) (sym acted.session) (session_within before.session at.within line.command command);
         clip = clip_is;
         counted = ap (λ (css : List (List CellChange)). length css) acted.recorded ∙ omega (arith, length_push before.recorded.changes acted.changes, at.counted, number_more);
         changes = λ n below. changes_at n (omega (arith, below, number_more));

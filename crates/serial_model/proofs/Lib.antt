@@ -1,4 +1,5 @@
-pub mod SessionLemmas
+pub mod ClipboardLemmas
+pub mod JobLemmas
 pub mod OrderLemmas
 pub mod CarryingLemmas
 pub mod FoldLemmas

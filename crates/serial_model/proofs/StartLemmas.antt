@@ -1,9 +1,9 @@
 -- Where the fold begins and where it stops.
 use Rattle.std.proofs.Common.{◌≡◌, ℕ, suc, ◌<◌, ◌≤◌, ◌⊎◌, true, List, [], length, map, take, get_or, Option, Some, None, refl, sym, ap, ◌∙◌, subst, inl, inr, arith}
-use Rattle.std.specs.Prelude.{All, slice_get, nat_le}
+use Rattle.std.specs.Prelude.{All, slice_get}
 use Rattle.std.specs.List.{range_with_len}
 use Rattle.std.specs.Option.{option_map_or}
-use Rattle.std.proofs.lemmas.Bool.{cases_lt, leb-true}
+use Rattle.std.proofs.lemmas.Bool.{cases_lt}
 use Rattle.std.proofs.lemmas.List.{length-map, length-take-le}
 use Rattle.std.proofs.lemmas.List.Elements.{All-nil}
 use Rattle.std.proofs.lemmas.List.FromFn.{get_or-map-range_with_len, length-range_with_len}
@@ -15,13 +15,14 @@ use Rattle.edit_terms.specs.declared.script.Line.{Line}
 use Rattle.edit_terms.specs.declared.script.Script.{Script}
 use Rattle.edit_terms.specs.declared.step.Step.{Step}
 use Rattle.edit_terms.specs.Grid.{world_of}
-use Rattle.edit_terms.proofs.AreaLemmas.{and_both}
 use Rattle.run_terms.specs.Fold.{edits_taken_by}
 use Rattle.run_terms.specs.Limits.{is_command_within, IsScriptWithin, IsWithinLimits}
 use Rattle.run_terms.specs.Order.{IsLegalOrder, lines_of, turns_of}
 use Rattle.run_terms.specs.Session.{Session, resolved_command, step_of_line}
 use Rattle.run_terms.specs.Workload.{Workload, workload_of}
 use Rattle.run_terms.proofs.Earlier.{session_has_taken, step_is_of_earlier}
+use Rattle.run_terms.proofs.LimitLemmas.{few_lines, line_has, lines_within}
+use Rattle.run_terms.proofs.SessionLimitLemmas.{opening_within}
 use Rattle.world_canvas.specs.declared.cell_change.CellChange.{CellChange}
 use Rattle.world_canvas.specs.Canvas.{Painting, shown}
 use Rattle.world_canvas.specs.Changes.{AreChangesNamed, AreChangesIn}
@@ -38,7 +39,7 @@ use Rattle.serial_model.proofs.OrderLemmas.{unknown_is_illegal, spent_is_illegal
 player_starts : (case : Workload) (order : List ℕ) (p : Painting) (number : ℕ) → IsPlayerAt case order 0 p number (starting_player case.depth number)
 player_starts case order p number = record {
   session = refl;
-  within = record { place = tt; global = omega arith; clip = tt };
+  within = opening_within number case.depth;
   clip = tt;
   counted = refl;
   changes = λ n below. absurd (omega (arith, below));
@@ -59,9 +60,6 @@ starts case p players answered world are none order = record {
       (player_starts (workload_of case) order p n);
 }
 
-pub few_players : (case : Case) → IsWithinLimits (workload_of case) → length case.scripts ≤ 64
-few_players case limits = leb-true (length case.scripts) 64 (and_both (nat_le 1 (length case.scripts)) (nat_le (length case.scripts) 64) limits.scripts).1
-
 -- ---- a player's next command
 
 -- what isn't read lies past the end
@@ -76,18 +74,11 @@ record IsLineWithin (line : Line) (n : ℕ) : Type 0 where
   few : n < 10000
   within : is_command_within line.command ≡ true
 
-line_within : (case : Workload) (number n : ℕ) (line : Line) → IsWithinLimits case → number < length case.scripts → slice_get (lines_of case.scripts number) n ≡ Some line → IsLineWithin line n
-line_within case number n line limits known there = elim (slice_get_cases case.scripts number).1 [
-  | inl found ↦
-      let script : Script = found.0 in
-      let own : lines_of case.scripts number ≡ script.lines = ap (λ (s : Option Script). option_map_or (λ (t : Script). t.lines) s []) found.2 in
-      let within : IsScriptWithin script = subst (λ (s : Script). IsScriptWithin s) found.3 (limits.each number script known) in
-      let at : slice_get script.lines n ≡ Some line = subst (λ (ls : List Line). slice_get ls n ≡ Some line) own there in
-      let inside : n < length script.lines = slice_get_within script.lines n line at in
-      let read : get_or script.lines n line ≡ line = get_or_from_slice_get script.lines n line line at in
-      record { few = omega (arith, within.lines, inside); within = subst (λ (l : Line). is_command_within l.command ≡ true) read (within.commands n line inside) }
-  | inr past ↦ absurd (omega (arith, known, past.0))
-]
+line_within : (scripts : List Script) (number n : ℕ) (line : Line) → All IsScriptWithin scripts → slice_get (lines_of scripts number) n ≡ Some line → IsLineWithin line n
+line_within scripts number n line each there = record {
+  few = omega (arith, few_lines scripts each number, slice_get_within (lines_of scripts number) n line there);
+  within = line_has (λ l. is_command_within l.command ≡ true) (lines_of scripts number) (lines_within scripts each number) n line there;
+}
 
 module _ (case : Workload) (order : List ℕ) (ticket number : ℕ) (p : Painting) (player : Player) (at : IsPlayerAt case order ticket p number player) (few : turns_of number (take ticket order) ≤ length (lines_of case.scripts number)) where
   -- the session took as many commands as the player had turns
@@ -114,7 +105,7 @@ pub ready : (case : Workload) (order : List ℕ) (ticket number : ℕ) (p : Pain
     → IsWithinLimits case → IsFolded case order ticket p players answered → IsNextCommand case.scripts players number command → IsReady p (get_or players number d) command
 ready case order ticket number p players answered command d limits h next =
     let at = h.each number d next.known in
-    let line : IsLineWithin next.line (get_or players number d).session.number = line_within case number (get_or players number d).session.number next.line limits next.known (next.there d) in
+    let line : IsLineWithin next.line (get_or players number d).session.number = line_within case.scripts number (get_or players number d).session.number next.line limits.each (next.there d) in
     record {
       number = line.few;
       recorded = at.recorded;

@@ -4,6 +4,7 @@ use Rattle.std.specs.List.{range_with_len}
 use Rattle.edit_terms.specs.declared.clip.Clip.{Clip}
 use Rattle.edit_terms.specs.declared.outcome.Reply.{Reply}
 use Rattle.run_terms.specs.Session.{Session, session_after}
+use Rattle.run_terms.specs.SessionLimits.{IsSessionWithin}
 use Rattle.run_terms.specs.Workload.{Workload}
 use Rattle.run_terms.specs.Order.{IsLegalOrder, lines_of, turns_of, ticket_of}
 use Rattle.run_terms.specs.Fold.{world_after, changes_of}
@@ -13,7 +14,6 @@ use Rattle.world_canvas.specs.Canvas.{Painting, shown}
 use Rattle.world_canvas.specs.Changes.{changes_shown}
 use Rattle.serial_model.specs.declared.player.Player.{Player}
 use Rattle.serial_model.specs.Recorded.{IsRecord}
-use Rattle.serial_model.specs.Within.{IsSessionWithin}
 
 -- the session of a player after so many tickets
 abbrev pub session_at : Workload → List ℕ → ℕ → ℕ → Session

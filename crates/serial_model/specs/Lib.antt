@@ -1,5 +1,4 @@
 pub mod Copying
-pub mod Within
 pub mod Recorded
 pub mod Acted
 pub mod Ready

@@ -4,9 +4,9 @@ use Rattle.edit_terms.specs.declared.script.Command.{Command}
 use Rattle.run_terms.specs.Fold.{edits_taken_by}
 use Rattle.run_terms.specs.Limits.{is_command_within}
 use Rattle.run_terms.specs.Session.{resolved_command}
+use Rattle.run_terms.specs.SessionLimits.{IsSessionWithin}
 use Rattle.world_canvas.specs.Canvas.{Painting}
 use Rattle.serial_model.specs.Recorded.{IsRecord}
-use Rattle.serial_model.specs.Within.{IsSessionWithin}
 use Rattle.serial_model.specs.declared.player.Player.{Player}
 
 -- the command is within the limits, the session took fewer than 10,000, and what the command takes is recorded

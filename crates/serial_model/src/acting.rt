@@ -13,7 +13,7 @@ use std::alloc::Global;
 use world_canvas::Canvas;
 
 /// Takes a player's next command: its effect on the world, its reply, and what is to be recorded of it.
-#[tactic(auto, using(crate::proofs::SessionLemmas::step_within))]
+#[tactic(auto, using(run_terms::proofs::SessionLimitLemmas::step_within))]
 pub(crate) fn act(
     alloc: Global,
     seed: u64,

@@ -8,9 +8,9 @@ ghost use Rattle.plain_effects.specs.Jobs.{IsOfItself};
 ghost use Rattle.plain_terms.specs.Shown.{IsNumbered};
 ghost use Rattle.run_terms.specs.Effect.{effect_at};
 ghost use Rattle.run_terms.specs.Fold.{edits_taken, edits_taken_by};
+ghost use Rattle.run_terms.specs.SessionLimits.{IsSpecWithin, IsStepWithin};
 ghost use Rattle.serial_model.specs.Copying.{is_copying, is_copying_work};
 ghost use Rattle.serial_model.specs.Recorded.{IsRecord, IsCarriedOut, task_recorded};
-ghost use Rattle.serial_model.specs.Within.{IsSpecWithin, IsStepWithin};
 ghost use Rattle.world_canvas.specs.Canvas.{shown};
 ghost use Rattle.world_canvas.specs.Changes.{IsRewritten};
 ghost use Rattle.world_canvas.specs.Proposals.{proposals_for};
@@ -121,6 +121,7 @@ fn rewrite(
 }
 
 /// What the command proposes for the world as it is.
+#[tactic(auto, using(crate::proofs::JobLemmas::few_noise_leaves, crate::proofs::JobLemmas::few_copies, crate::proofs::JobLemmas::copied_on_map))]
 fn proposals(
     alloc: Global,
     seed: u64,

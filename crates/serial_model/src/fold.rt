@@ -91,7 +91,7 @@ impl Fold {
 }
 
 /// How many players there are.
-#[tactic(auto, using(crate::proofs::StartLemmas::few_players))]
+#[tactic(auto, using(run_terms::proofs::LimitLemmas::few_players))]
 fn player_count(case: &Case) -> u32
     requires { IsWithinLimits (workload_of case.now) }
     ensures { result ≡ length case.now.scripts }

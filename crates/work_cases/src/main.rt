@@ -12,6 +12,7 @@
 //! | `session SCRIPT` | what each command is in its session |
 //! | `new PLAYER` | what a new session of this player has |
 //! | `selections SCRIPT`, `clips SCRIPT` | the selection and the clipboard behind each command of player 7 |
+//! | `limits WORLD; SCRIPTS` | whether the workload keeps the limits |
 //! | `plan WORLD; SCRIPTS` | the chunks that each command reads and writes, and how many jobs there are |
 //! | `plan_many N WORLD; SCRIPT` | how many jobs there are where the script's last command stands N times |
 //! | `plan_head WORLD; SCRIPTS` | how many jobs there are, the seed and the box |
@@ -71,6 +72,7 @@ impl Cases for WorkCases {
 /// The answers of runs, and of what needs no script.
 fn answer_run(alloc: Global, kind: &str, input: &str, answer: &mut Vec<u8>) -> Option<()> {
     match kind {
+        "limits" => workloads::answer_limits(alloc, input, answer),
         "edit" => edits::answer(alloc, input, answer),
         "fold" => folds::answer(alloc, input, answer),
         "find" => looks::answer_found(alloc, input, answer),

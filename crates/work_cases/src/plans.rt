@@ -1,7 +1,6 @@
 //! Plans.
 
-ghost use Rattle.std.specs.Prelude.{[], All, IfSome};
-ghost use Rattle.run_terms.specs.Limits.{IsScriptWithin, IsWithinLimits};
+ghost use Rattle.run_terms.specs.Limits.{IsWithinLimits};
 ghost use Rattle.run_terms.specs.Workload.{workload_of};
 
 use crate::numbers::number_before;
@@ -58,9 +57,7 @@ fn push_area(answer: &mut Vec<u8>, area: &WorldBox) -> Option<()> {
 }
 
 /// A script whose last command stands so many times.
-fn repeated(alloc: Global, script: &str, count: u64) -> Option<Vec<Script>>
-    ensures { IfSome result (λ scripts. All IsScriptWithin scripts.items) }
-{
+fn repeated(alloc: Global, script: &str, count: u64) -> Option<Vec<Script>> {
     let mut bytes = bytes_of(alloc, script)?;
     let (_, last) = script.rsplit_once(" | ")?;
     for _ in 1..count {

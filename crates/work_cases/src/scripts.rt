@@ -1,8 +1,5 @@
 //! Scripts of commands.
 
-ghost use Rattle.std.specs.Prelude.{All, IfSome, OnSome};
-ghost use Rattle.run_terms.specs.Limits.{IsScriptWithin};
-
 use case_lines::script_of;
 use command_syntax::read_script;
 use edit_terms::Script;
@@ -17,9 +14,7 @@ pub(crate) fn bytes_of(alloc: Global, commands: &str) -> Option<Vec<u8>> {
 }
 
 /// The script of these bytes.
-pub(crate) fn read(alloc: Global, bytes: &[u8]) -> Option<Script>
-    ensures { IfSome result IsScriptWithin }
-{
+pub(crate) fn read(alloc: Global, bytes: &[u8]) -> Option<Script> {
     if bytes.len() > 1_048_576 {
         return None;
     }
@@ -30,17 +25,13 @@ pub(crate) fn read(alloc: Global, bytes: &[u8]) -> Option<Script>
 }
 
 /// The script of a player of these commands.
-pub(crate) fn one_script(alloc: Global, commands: &str) -> Option<Script>
-    ensures { IfSome result IsScriptWithin }
-{
+pub(crate) fn one_script(alloc: Global, commands: &str) -> Option<Script> {
     let bytes = bytes_of(alloc, commands)?;
     read(alloc, &bytes)
 }
 
 /// The scripts of players, with ` || ` between.
-pub(crate) fn all_scripts(alloc: Global, texts: &str) -> Option<Vec<Script>>
-    ensures { IfSome result (λ scripts. All IsScriptWithin scripts.items) }
-{
+pub(crate) fn all_scripts(alloc: Global, texts: &str) -> Option<Vec<Script>> {
     let mut scripts = Vec::new(alloc);
     for commands in texts.split(" || ") {
         let script = one_script(alloc, commands)?;

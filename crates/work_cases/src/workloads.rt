@@ -1,16 +1,19 @@
 //! Workloads.
 
-ghost use Rattle.std.specs.Prelude.{All, IfSome, ◌≤◌};
-ghost use Rattle.run_terms.specs.Limits.{IsScriptWithin, IsWithinLimits};
+ghost use Rattle.std.specs.Prelude.{IfSome};
+ghost use Rattle.run_terms.specs.Limits.{IsWithinLimits};
 ghost use Rattle.run_terms.specs.Workload.{workload_of};
 
 use crate::numbers::number_behind;
 use crate::scripts::all_scripts;
 use crate::worlds::world_of;
-use edit_terms::{Case, Grid, Items, Script};
+use case_lines::push_text;
+use edit_terms::{Case, Items, Script};
+use run_terms::keeps_limits;
 use std::alloc::Global;
 
-/// The workload of a world's text, which may have a depth and a seed before it, and of scripts.
+/// The workload of a world's text, which may have a depth and a seed before it, and of scripts, where it keeps the
+/// limits.
 pub(crate) fn workload(alloc: Global, world: &str, scripts: &str) -> Option<Case>
     ensures { IfSome result (λ case. IsWithinLimits (workload_of case)) }
 {
@@ -18,29 +21,38 @@ pub(crate) fn workload(alloc: Global, world: &str, scripts: &str) -> Option<Case
     workload_with(alloc, world, scripts)
 }
 
-/// The workload of a world's text, which may have a depth and a seed before it, and of these scripts.
+/// The workload of a world's text, which may have a depth and a seed before it, and of these scripts, where it keeps
+/// the limits.
 pub(crate) fn workload_with(alloc: Global, world: &str, scripts: Vec<Script>) -> Option<Case>
-    requires { All IsScriptWithin scripts.items }
     ensures { IfSome result (λ case. IsWithinLimits (workload_of case)) }
 {
-    let (depth, world) = number_behind(world, "depth ", 15)?;
-    let (seed, world) = number_behind(world, "seed ", 0)?;
-    let opening = world_of(alloc, world)?;
-    within(opening, scripts, seed, u32::try_from(depth).ok()?)
-}
-
-/// The workload, where it is within the limits.
-fn within(opening: Grid, scripts: Vec<Script>, seed: u64, depth: u32) -> Option<Case>
-    requires { All IsScriptWithin scripts.items }
-    ensures { IfSome result (λ case. IsWithinLimits (workload_of case)) }
-{
-    if scripts.is_empty() || scripts.len() > 64 || depth < 1 || depth > 1000 {
+    let case = case_of(alloc, world, scripts)?;
+    if !keeps_limits(&case) {
         return None;
     }
+    Some(case)
+}
+
+/// The workload of a world's text and of these scripts, within the limits or not.
+fn case_of(alloc: Global, world: &str, scripts: Vec<Script>) -> Option<Case> {
+    let (depth, world) = number_behind(world, "depth ", 15)?;
+    let (seed, world) = number_behind(world, "seed ", 0)?;
     Some(Case {
-        opening,
+        opening: world_of(alloc, world)?,
         scripts: Items::from_vec(scripts),
         seed,
-        depth,
+        depth: u32::try_from(depth).ok()?,
     })
+}
+
+/// `WORLD; SCRIPTS`: whether the workload keeps the limits.
+pub(crate) fn answer_limits(alloc: Global, input: &str, answer: &mut Vec<u8>) -> Option<()> {
+    let (world, scripts) = input.split_once("; ")?;
+    let case = case_of(alloc, world, all_scripts(alloc, scripts)?)?;
+    let told = if keeps_limits(&case) {
+        "kept"
+    } else {
+        "not kept"
+    };
+    push_text(answer, told).ok()
 }

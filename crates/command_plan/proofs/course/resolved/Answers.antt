@@ -2,10 +2,10 @@ use Rattle.std.proofs.Common.{◌≡◌, ℕ, ◌<◌, length, true, sym, subst,
 use Rattle.edit_terms.specs.declared.script.Line.{Line}
 use Rattle.edit_terms.specs.declared.step.Step.{Step}
 use Rattle.run_terms.specs.Limits.{is_command_within}
+use Rattle.run_terms.specs.SessionLimits.{IsStepWithin}
+use Rattle.run_terms.proofs.SessionLimitLemmas.{step_within}
 use Rattle.command_plan.specs.Courses.{IsResolved}
-use Rattle.command_plan.specs.Within.{IsStepWithin}
 use Rattle.command_plan.proofs.CourseLemmas.{took, taken_more}
-use Rattle.command_plan.proofs.SessionLemmas.{step_within}
 use Rattle.command_plan.proofs.course.resolved.Goals as goal
 
 pub next-requires : goal.next-requires
@@ -22,7 +22,7 @@ footprint_of-requires c =
     let line = c.line-item.result in
     let within : k < length lines = omega arith in
     let limits : is_command_within line.command ≡ true = subst (λ (l : Line). is_command_within l.command ≡ true) (sym c.line-item.is) (c.requires.within k line within) in
-    subst (λ (s : Step). IsStepWithin s) (sym c.in_ok-step.ensures.step) (step_within c.loop-line.session line.command c.loop-line.invariant.within limits)
+    subst (λ (s : Step). IsStepWithin s) (sym c.in_ok-step.ensures.step) (step_within c.loop-line.session c.loop-line.invariant.within line.command limits)
 
 pub loop-line-preserved : goal.loop-line-preserved
 loop-line-preserved c =

@@ -4,13 +4,13 @@ use Rattle.std.specs.Vec.Iter.{into_iter_items}
 use Rattle.std.proofs.lemmas.List.{length-append, map-append}
 use Rattle.std.proofs.lemmas.List.FromFn.{map-range_with_len_more}
 use Rattle.run_terms.specs.Workload.{workload_of}
+use Rattle.run_terms.proofs.LimitLemmas.{few_lines}
 use Rattle.command_plan.specs.declared.course.Course.{Course}
 use Rattle.command_plan.specs.declared.planned.Planned.{Planned}
 use Rattle.command_plan.specs.declared.rectangle.Floor.{Floor}
 use Rattle.command_plan.specs.Courses.{IsSound}
 use Rattle.command_plan.specs.Plan.{planned_by}
 use Rattle.command_plan.specs.PlannedCourses.{planned_at}
-use Rattle.command_plan.proofs.LimitLemmas.{few_lines}
 use Rattle.command_plan.proofs.PlanLemmas.{course_sound, course_count, course_planned, course_known}
 use Rattle.command_plan.proofs.players.plan_courses.Goals as goal
 
@@ -28,7 +28,7 @@ planned_course-requires-clause-few c =
     let course = c.in-Some.course in
     let parts = sym c.loop-course.invariant.split ∙ ap (λ (cs : List Course). c.loop-course.yielded ++ cs) c.in-Some.ensures.steps.0 in
     let known = course_known case (length case.scripts) c.args.courses.items c.loop-course.yielded course (into_iter_items c.next.new.self) c.requires.courses parts in
-    omega (arith, course_count case (length c.loop-course.yielded) course known.is, few_lines case (length c.loop-course.yielded) c.requires.limits known.below)
+    omega (arith, course_count case (length c.loop-course.yielded) course known.is, few_lines case.scripts c.requires.limits.each (length c.loop-course.yielded))
 
 pub loop-course-preserved : goal.loop-course-preserved
 loop-course-preserved c =

@@ -3,11 +3,11 @@ use Rattle.std.specs.Prelude.{sum_by}
 use Rattle.std.specs.List.{range_with_len}
 use Rattle.run_terms.specs.Access.{accesses_of_player}
 use Rattle.run_terms.specs.Workload.{workload_of}
+use Rattle.run_terms.proofs.LimitLemmas.{few_lines}
 use Rattle.command_plan.specs.declared.course.Course.{Course}
 use Rattle.command_plan.specs.declared.rectangle.Floor.{Floor}
 use Rattle.command_plan.specs.Courses.{IsSound, jobs_at}
 use Rattle.command_plan.specs.Players.{IsCourse}
-use Rattle.command_plan.proofs.LimitLemmas.{few_lines}
 use Rattle.command_plan.proofs.PlanLemmas.{course_sound, course_count, course_jobs}
 use Rattle.command_plan.proofs.WriteLemmas.{sum_more}
 use Rattle.command_plan.proofs.players.sum_of_accesses.Goals as goal
@@ -30,7 +30,7 @@ course_accesses-sum-requires-clause-few c =
     let many = c.requires.courses.many in
     let known : k < length case.scripts = omega arith in
     let is : IsCourse case k course = subst (λ (d : Course). IsCourse case k d) (sym c.course-item.is) (c.requires.courses.each k course known) in
-    omega (arith, course_count case k course is, few_lines case k c.requires.limits known)
+    omega (arith, course_count case k course is, few_lines case.scripts c.requires.limits.each k)
 
 pub loop-course-preserved : goal.loop-course-preserved
 loop-course-preserved c =

@@ -1,6 +1,7 @@
 use Rattle.std.proofs.Common.{ℕ, ◌+◌, cond, ltb, length, ap, ◌∙◌, arith}
 use Rattle.run_terms.specs.Order.{lines_of}
-use Rattle.edit_top.proofs.RoundLemmas.{min_more, few_lines}
+use Rattle.run_terms.proofs.LimitLemmas.{few_lines}
+use Rattle.edit_top.proofs.RoundLemmas.{min_more}
 use Rattle.edit_top.proofs.rounds.in_rounds.Goals as goal
 
 pub loop-round-preserved : goal.loop-round-preserved
