@@ -1,9 +1,9 @@
 //! Cutting a text at its separators.
-ghost use Rattle.std.specs.Prelude.{◌≡◌, ◌≢◌, ◌==◌, ◌<◌, ◌≤◌, [], ◌∷◌, length, position, MatchOption, IfSome, OnSome};
+ghost use Rattle.std.specs.Prelude.{◌≡◌, ◌≢◌, ◌==◌, ◌+◌, ◌≤◌, [], ◌∷◌, length, position, MatchOption, IfSome, OnSome};
 ghost use Rattle.edit_terms.specs.StateText.{cut_at};
 
 /// The two parts around the one separator. None where it doesn't stand there exactly once.
-pub(crate) fn two_parts(bytes: &[u8], separator: u8) -> Option<(&[u8], &[u8])>
+pub fn two_parts(bytes: &[u8], separator: u8) -> Option<(&[u8], &[u8])>
     ensures { MatchOption result (length (cut_at separator bytes.now) ≢ 2)
         (λ cut. cut_at separator bytes.now ≡ cut.0.now ∷ cut.1.now ∷ []) }
 {
@@ -16,11 +16,11 @@ pub(crate) fn two_parts(bytes: &[u8], separator: u8) -> Option<(&[u8], &[u8])>
 
 /// What stands before and behind the first separator. None where there is none.
 #[tactic(auto, using(crate::proofs::CutLemmas::cut_whole))]
-pub(crate) fn split_once(bytes: &[u8], separator: u8) -> Option<(&[u8], &[u8])>
+pub fn split_once(bytes: &[u8], separator: u8) -> Option<(&[u8], &[u8])>
     ensures cases { MatchOption result (cut_at separator bytes.now ≡ bytes.now ∷ [])
         (λ cut. cut_at separator bytes.now ≡ cut.0.now ∷ cut_at separator cut.1.now) }
+    ensures sizes { IfSome result (λ cut. length cut.0.now + 1 + length cut.1.now ≡ length bytes.now) }
     ensures several { OnSome result (2 ≤ length (cut_at separator bytes.now)) }
-    ensures shorter { IfSome result (λ cut. length cut.1.now < length bytes.now) }
 {
     let at = first_place(bytes, separator)?;
     Some((&bytes[..at], &bytes[at + 1..]))

@@ -1,7 +1,7 @@
 //! Reading properties in their order in a text.
 ghost use Rattle.std.specs.Prelude.{◌≡◌, ◌&&◌, [], Err, MatchOption};
 ghost use Rattle.edit_terms.specs.StateText.{BadProperty, is_property, cut_at, opening, closing, comma, equals, judged, listed_behind, listed_inside, listed_before_end, listed_in};
-ghost use Rattle.block_state.specs.Read.{Gives};
+ghost use Rattle.block_state.specs.Read.{IsFault, Gives};
 
 use crate::cuts::{split_once, two_parts};
 use crate::fault::StateFault;
@@ -14,7 +14,7 @@ const MOST_PROPERTIES: usize = 16;
 
 /// The properties of what stands behind the opening bracket.
 pub(crate) fn read_behind(alloc: Global, rest: &[u8]) -> Result<Vec<(Name, Name)>, StateFault>
-    ensures { Gives (λ listed. listed.items) (listed_in (cut_at opening rest.now)) result }
+    ensures { Gives IsFault (λ listed. listed.items) (listed_in (cut_at opening rest.now)) result }
 {
     let Some(inside) = inside_of(rest) else {
         return Err(StateFault::BadProperty);
@@ -48,7 +48,7 @@ fn before_closing(rest: &[u8]) -> Option<&[u8]>
 
 /// The properties between the commas.
 fn read_listed(alloc: Global, inside: &[u8]) -> Result<Vec<(Name, Name)>, StateFault>
-    ensures { Gives (λ listed. listed.items) (listed_behind [] (cut_at comma inside.now)) result }
+    ensures { Gives IsFault (λ listed. listed.items) (listed_behind [] (cut_at comma inside.now)) result }
 {
     let mut listed = Vec::new(alloc);
     let mut rest = inside;
@@ -68,7 +68,7 @@ fn read_property(
     earlier: &[(Name, Name)],
     piece: &[u8],
 ) -> Result<(Name, Name), StateFault>
-    ensures { Gives (λ p. p) (judged earlier.now (cut_at equals piece.now)) result }
+    ensures { Gives IsFault (λ p. p) (judged earlier.now (cut_at equals piece.now)) result }
 {
     let Some((key, value)) = two_parts(piece, b'=') else {
         return Err(StateFault::BadProperty);

@@ -1,7 +1,7 @@
 //! Reading a state's text.
 ghost use Rattle.std.specs.Prelude.{◌≡◌, ◌++◌, Ok, IfOk, IfErr, codes, is_some, position};
 ghost use Rattle.edit_terms.specs.StateText.{IsStateText, is_colon, with_namespace, sorted_properties, state_reading};
-ghost use Rattle.block_state.specs.Read.{Tells, Gives, name_reading};
+ghost use Rattle.block_state.specs.Read.{IsFault, Gives, name_reading, properties_reading};
 
 use crate::cuts::split_once;
 use crate::fault::StateFault;
@@ -25,7 +25,7 @@ use std::alloc::Global;
 pub fn read_state(alloc: Global, text: &[u8]) -> Result<BlockState, StateFault>
     ensures read { IfOk result (λ s. state_reading text.now ≡ Ok s) }
     ensures stands { IfOk result (λ s. IsStateText text.now s) }
-    ensures fault { IfErr result (λ fault. Tells (state_reading text.now) fault) }
+    ensures fault { IfErr result (λ fault. IsFault (state_reading text.now) fault) }
 {
     states_and_faults();
     let (name, listed) = read_parts(alloc, text)?;
@@ -37,7 +37,7 @@ pub fn read_state(alloc: Global, text: &[u8]) -> Result<BlockState, StateFault>
 
 /// The name, and the properties in their order in the text.
 fn read_parts(alloc: Global, text: &[u8]) -> Result<(BlockName, Vec<(Name, Name)>), StateFault>
-    ensures { Gives (λ parts. record { name = parts.0; properties = sorted_properties parts.1.items }) (state_reading text.now) result }
+    ensures { Gives IsFault (λ parts. record { name = parts.0; properties = sorted_properties parts.1.items }) (state_reading text.now) result }
 {
     let Some((name, rest)) = split_once(text, b'[') else {
         return Ok((read_name(alloc, text)?, Vec::new(alloc)));
@@ -47,9 +47,19 @@ fn read_parts(alloc: Global, text: &[u8]) -> Result<(BlockName, Vec<(Name, Name)
     Ok((name, listed))
 }
 
-/// The name of a text without brackets.
-fn read_name(alloc: Global, text: &[u8]) -> Result<BlockName, StateFault>
-    ensures { Gives (λ name. name) (name_reading text.now) result }
+/// Reads the properties of what stands behind the opening bracket, as `half=top,facing=east]`, as those of a state.
+pub fn read_properties(alloc: Global, rest: &[u8]) -> Result<Properties, StateFault>
+    ensures { Gives IsFault (λ properties. properties) (properties_reading rest.now) result }
+{
+    states_and_faults();
+    let listed = read_behind(alloc, rest)?;
+    let sorted = with_properties(Vec::with_capacity(alloc, listed.len())?, listed)?;
+    Ok(Properties::from_pairs(sorted).unwrap())
+}
+
+/// Reads a block's name, as that of a state without brackets.
+pub fn read_name(alloc: Global, text: &[u8]) -> Result<BlockName, StateFault>
+    ensures { Gives IsFault (λ name. name) (name_reading text.now) result }
 {
     let Some(name) = BlockName::from_name(with_namespace(alloc, text)?) else {
         return Err(StateFault::BadName);
