@@ -1,9 +1,6 @@
-pub mod Separators
 pub mod WordCounts
-pub mod Digits
 pub mod Positions
 pub mod Terms
 pub mod Quoting
 pub mod ShortWords
-pub mod Joined
 pub mod Within

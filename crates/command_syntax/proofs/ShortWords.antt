@@ -4,8 +4,9 @@ use Rattle.std.specs.Prelude.{Result, IfOk, All, ◌==◌, filter, flat_map}
 use Rattle.std.specs.List.{onto_first, slice_split}
 use Rattle.std.proofs.lemmas.List.Elements.{All-nil, All-cons}
 use Rattle.command_syntax.specs.declared.fault.LineFault.{LineFault}
-use Rattle.command_syntax.specs.Text.{is_blank, quote, parts}
-use Rattle.command_syntax.specs.Verdict.{verdict_map}
+use Rattle.edit_terms.specs.StateText.{cut_at}
+use Rattle.command_syntax.specs.Text.{is_blank, quote}
+use Rattle.term_text.specs.Verdict.{verdict_map}
 use Rattle.command_syntax.specs.Words.{Mark, Gap, Part, mark_of, has_some, is_gap, text_of, marks_of, words_in, words_of, AreShort}
 
 -- how many bytes there are in marks, in lists of marks and in texts
@@ -72,11 +73,11 @@ onto_bytes : (b : ℕ) (texts : List (List ℕ)) → bytes_in (onto_first b text
 onto_bytes b [] = omega arith
 onto_bytes b (text ∷ texts) = omega arith
 
-parts_short : (c : ℕ) (bytes : List ℕ) → bytes_in (parts c bytes) ≤ length bytes
+parts_short : (c : ℕ) (bytes : List ℕ) → bytes_in (cut_at c bytes) ≤ length bytes
 parts_short c [] = omega arith
-parts_short c (b ∷ bytes) = elim (b == c) as (λ t. bytes_in (cond t ([] ∷ parts c bytes) (onto_first b (parts c bytes))) ≤ length (b ∷ bytes)) [
+parts_short c (b ∷ bytes) = elim (b == c) as (λ t. bytes_in (cond t ([] ∷ cut_at c bytes) (onto_first b (cut_at c bytes))) ≤ length (b ∷ bytes)) [
   | true ↦ omega (arith, parts_short c bytes)
-  | false ↦ omega (arith, onto_bytes b (parts c bytes), parts_short c bytes)
+  | false ↦ omega (arith, onto_bytes b (cut_at c bytes), parts_short c bytes)
 ]
 
 -- the words of a line
@@ -86,4 +87,4 @@ words_short_of n most (Err fault) few below = tt
 
 pub words_short : (line : List ℕ) (words : List (List ℕ)) → words_of line ≡ Ok words → length line ≤ 1048576 → AreShort words
 words_short line words is few =
-    subst (λ r. IfOk r AreShort) is (words_short_of (bytes_in (parts quote line)) 1048576 (marks_of (parts quote line)) (marks_short (parts quote line)) (omega (arith, parts_short quote line)))
+    subst (λ r. IfOk r AreShort) is (words_short_of (bytes_in (cut_at quote line)) 1048576 (marks_of (cut_at quote line)) (marks_short (cut_at quote line)) (omega (arith, parts_short quote line)))

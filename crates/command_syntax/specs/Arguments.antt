@@ -1,6 +1,6 @@
 -- How many words stand behind a command's own: too few are a missing word, too many an extra one.
 use Rattle.std.specs.Prelude.{ℕ, List, [], ◌∷◌, Option, Some, None, Result, Ok, Err}
-use Rattle.command_syntax.specs.Verdict.{verdict_then, both}
+use Rattle.term_text.specs.Verdict.{verdict_then, both}
 use Rattle.command_syntax.specs.declared.fault.LineFault.{LineFault}
 use Rattle.command_syntax.specs.declared.fault.LineFault.TheVariants.{MissingWord, ExtraWord}
 

@@ -7,7 +7,7 @@ use Rattle.command_syntax.specs.declared.verb.Verb.{Verb}
 use Rattle.command_syntax.specs.declared.verb.Verb.TheVariants as verbs
 use Rattle.command_syntax.specs.declared.fault.LineFault.{LineFault}
 use Rattle.command_syntax.specs.declared.fault.LineFault.TheVariants.{UnknownCommand}
-use Rattle.command_syntax.specs.Verdict.{verdict_map, verdict_then, both, all_three}
+use Rattle.term_text.specs.Verdict.{verdict_map, verdict_then, both, all_three}
 use Rattle.command_syntax.specs.Arguments.{no_word, optional_word, optional_and_one, two_and_optional, of_one, of_two, if_any}
 use Rattle.command_syntax.specs.Number.{count_of, radius_of, height_of, quarters_of}
 use Rattle.command_syntax.specs.Position.{position_of}

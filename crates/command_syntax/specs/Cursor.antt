@@ -1,6 +1,7 @@
 -- What contracts see of the reader's place among the lines of a text.
 use Rattle.std.specs.Prelude.{ℕ, ◌+◌, ◌≤◌, List, [], ◌∷◌, ◌++◌, length, Option, Some, None, option_map}
 use Rattle.std.specs.Borrow.{Bor}
+use Rattle.term_text.specs.Cursor.{room_left}
 use Rattle.command_syntax.specs.declared.line.NumberedLine.{NumberedLine}
 use Rattle.command_syntax.specs.declared.words.WordsRead.{WordsRead}
 use Rattle.command_syntax.specs.Lines.{lines_from}
@@ -14,11 +15,6 @@ line_now l = (l.number, l.text.now)
 abbrev pub lines_left : ℕ → Option (Bor (List ℕ)) → List (ℕ × List ℕ)
 lines_left number None = []
 lines_left number (Some text) = lines_from number text.now
-
--- the bytes that are left, and one for the end
-abbrev pub room_left : Option (Bor (List ℕ)) → ℕ
-room_left None = 0
-room_left (Some text) = length text.now + 1
 
 -- lines have numbers from 1, and are not more than a script has
 pub record IsPlaced (number : ℕ) (rest : Option (Bor (List ℕ))) : Type 0 where

@@ -1,4 +1,3 @@
-pub mod Verdict
 pub mod Read
 pub mod Stop
 pub mod Text

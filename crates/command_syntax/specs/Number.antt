@@ -1,25 +1,15 @@
 -- Numbers of a script.
-use Rattle.std.specs.Prelude.{ℕ, ◌==◌, Bool, ◌&&◌, nat_le, nat_lt, if◌then◌else◌, ℤ, pos, int_le, nat_abs, List, [], ◌∷◌, length, Option, Some, None, option_map, neg_ℤ, Result, Ok, Err}
-use Rattle.std.specs.Char.{is_ascii_digit}
-use Rattle.std.specs.List.{list_all}
-use Rattle.std.specs.Str.Parse.{digits_value}
-use Rattle.command_syntax.specs.Verdict.{verdict_then}
+use Rattle.std.specs.Prelude.{ℕ, ◌==◌, ◌&&◌, if◌then◌else◌, ℤ, pos, int_le, nat_abs, List, [], ◌∷◌, Option, Some, None, option_map, neg_ℤ, Result, Ok, Err}
+use Rattle.term_text.specs.Digits.{natural_of}
+use Rattle.term_text.specs.Verdict.{verdict_then}
 use Rattle.command_syntax.specs.declared.fault.LineFault.{LineFault}
 use Rattle.command_syntax.specs.declared.fault.LineFault.TheVariants.{BadNumber, OutOfLimit}
 
--- 1 to 10 digits; the first ones may be zeros
-abbrev pub is_digits : List ℕ → Bool
-is_digits bytes = nat_lt 0 (length bytes) && nat_le (length bytes) 10 && list_all is_ascii_digit bytes
-
--- the number that digits stand for in base ten
-abbrev pub natural_of : List ℕ → Option ℕ
-natural_of bytes = if is_digits bytes then Some (digits_value 10 bytes) else None
-
--- A number: an optional minus, and 1 to 10 digits.
+-- A number: an optional minus, and 1 to 10 digits; the first ones may be zeros.
 abbrev pub number_of : List ℕ → Option ℤ
 number_of [] = None
-number_of (b ∷ bytes) = if b == 45 then option_map (λ n. neg_ℤ (pos n)) (natural_of bytes)
-    else option_map pos (natural_of (b ∷ bytes))
+number_of (b ∷ bytes) = if b == 45 then option_map (λ n. neg_ℤ (pos n)) (natural_of 10 bytes)
+    else option_map pos (natural_of 10 (b ∷ bytes))
 
 -- a number from low to high, neither of which is negative
 abbrev pub limited : ℕ → ℕ → ℤ → Result ℕ LineFault

@@ -2,7 +2,7 @@
 use Rattle.std.specs.Prelude.{ℕ, ℤ, if◌then◌else◌, List, [], ◌∷◌, Option, Some, Result, Ok, Err}
 use Rattle.edit_terms.specs.declared.pos.Pos.{Pos}
 use Rattle.edit_terms.specs.Area.{is_on_map}
-use Rattle.command_syntax.specs.Text.{comma, parts}
+use Rattle.edit_terms.specs.StateText.{comma, cut_at}
 use Rattle.command_syntax.specs.Number.{number_of}
 use Rattle.command_syntax.specs.declared.fault.LineFault.{LineFault}
 use Rattle.command_syntax.specs.declared.fault.LineFault.TheVariants.{BadNumber, OutOfLimit}
@@ -21,4 +21,4 @@ position_from _ = Err BadNumber
 
 -- A position: three numbers with commas between, in the order x, y and z.
 abbrev pub position_of : List ℕ → Result Pos LineFault
-position_of word = position_from (parts comma word)
+position_of word = position_from (cut_at comma word)

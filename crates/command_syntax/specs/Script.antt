@@ -5,7 +5,7 @@ use Rattle.edit_terms.specs.declared.script.Line as line
 use Rattle.edit_terms.specs.declared.script.Script.{Script}
 use Rattle.command_syntax.specs.declared.fault.ScriptFault.{ScriptFault}
 use Rattle.command_syntax.specs.declared.fault.ScriptFault.TheVariants.{NotAscii, NoPlayer, TooManyLines, Line}
-use Rattle.command_syntax.specs.Verdict.{verdict_map, fault_map, both, all_or_first}
+use Rattle.term_text.specs.Verdict.{verdict_map, fault_map, both, all_or_first}
 use Rattle.command_syntax.specs.Lines.{lines_of}
 use Rattle.command_syntax.specs.Command.{command_of}
 use Rattle.command_syntax.specs.Player.{player_of}

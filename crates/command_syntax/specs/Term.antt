@@ -7,7 +7,7 @@ use Rattle.edit_terms.specs.StateText.{State, state_reading}
 use Rattle.mask_syntax.specs.Mask.{mask_of_text}
 use Rattle.pattern_syntax.specs.Pattern.{pattern_of_text}
 use Rattle.term_text.specs.Part.{at_place}
-use Rattle.command_syntax.specs.Verdict.{fault_map}
+use Rattle.term_text.specs.Verdict.{fault_map}
 use Rattle.command_syntax.specs.declared.fault.LineFault.{LineFault}
 use Rattle.command_syntax.specs.declared.fault.LineFault.TheVariants.{Term}
 

@@ -1,6 +1,5 @@
--- Bytes of a script's text, and how it is cut at one of them.
-use Rattle.std.specs.Prelude.{ℕ, ◌==◌, Bool, ◌||◌, List}
-use Rattle.std.specs.List.{slice_split}
+-- Bytes of a script's text.
+use Rattle.std.specs.Prelude.{ℕ, ◌==◌, Bool, ◌||◌}
 
 -- a line feed
 abbrev pub feed : ℕ
@@ -21,11 +20,3 @@ quote = 34
 -- a number sign: #
 abbrev pub hash : ℕ
 hash = 35
-
--- the byte between the numbers of a position
-abbrev pub comma : ℕ
-comma = 44
-
--- what stands between the separators, empty parts too
-abbrev pub parts : ℕ → List ℕ → List (List ℕ)
-parts separator bytes = slice_split (λ b. b == separator) bytes

@@ -3,8 +3,9 @@
 -- even where it is empty. So a word is what stands between gaps, with its parts joined.
 use Rattle.std.specs.Prelude.{ℕ, ◌≤◌, Bool, true, false, if◌then◌else◌, List, [], ◌∷◌, ◌++◌, length, map, filter, flat_map, Result, Ok, Err, All}
 use Rattle.std.specs.List.{slice_split}
-use Rattle.command_syntax.specs.Text.{is_blank, quote, parts}
-use Rattle.command_syntax.specs.Verdict.{verdict_map}
+use Rattle.edit_terms.specs.StateText.{cut_at}
+use Rattle.command_syntax.specs.Text.{is_blank, quote}
+use Rattle.term_text.specs.Verdict.{verdict_map}
 use Rattle.command_syntax.specs.declared.fault.LineFault.{LineFault}
 use Rattle.command_syntax.specs.declared.fault.LineFault.TheVariants.{OpenQuote}
 
@@ -45,7 +46,7 @@ words_in marks = map (flat_map text_of) (filter has_some (slice_split is_gap mar
 
 -- The words of a line, or its fault: a quote without an end.
 abbrev pub words_of : List ℕ → Result (List (List ℕ)) LineFault
-words_of line = verdict_map words_in (marks_of (parts quote line))
+words_of line = verdict_map words_in (marks_of (cut_at quote line))
 
 -- words of at most 1,048,576 bytes
 abbrev pub AreShort : List (List ℕ) → Type 0

@@ -2,7 +2,8 @@
 ghost use Rattle.std.specs.Prelude.{◌≡◌, ◌≤◌, length, option_map, Option, Some, None, IfOk, IfSome};
 ghost use Rattle.command_syntax.specs.Arguments.{one_word, optional_word, two_words, optional_and_one, two_and_optional};
 ghost use Rattle.command_syntax.specs.Words.{AreShort};
-ghost use Rattle.command_syntax.specs.Read.{Gives};
+ghost use Rattle.block_state.specs.Read.{Gives};
+ghost use Rattle.command_syntax.specs.Read.{IsStop};
 
 use crate::fault::LineFault;
 use crate::stop::Stop;
@@ -12,7 +13,7 @@ use edit_terms::Name;
 #[tactic(auto, using(crate::proofs::WordCounts::more_than_one))]
 pub(crate) fn one_word(words: &[Name]) -> Result<&[u8], Stop>
     requires { AreShort words.now }
-    ensures read { Gives (λ word. word.now) (one_word words.now) result }
+    ensures read { Gives IsStop (λ word. word.now) (one_word words.now) result }
     ensures short { IfOk result (λ word. length word.now ≤ 1048576) }
 {
     match words {
@@ -26,7 +27,7 @@ pub(crate) fn one_word(words: &[Name]) -> Result<&[u8], Stop>
 #[tactic(auto, using(crate::proofs::WordCounts::more_than_optional))]
 pub(crate) fn optional_word(words: &[Name]) -> Result<Option<&[u8]>, Stop>
     requires { AreShort words.now }
-    ensures read { Gives (option_map (λ word. word.now)) (optional_word words.now) result }
+    ensures read { Gives IsStop (option_map (λ word. word.now)) (optional_word words.now) result }
     ensures short { IfOk result (λ word. IfSome word (λ word. length word.now ≤ 1048576)) }
 {
     match words {
@@ -40,7 +41,7 @@ pub(crate) fn optional_word(words: &[Name]) -> Result<Option<&[u8]>, Stop>
 #[tactic(auto, using(crate::proofs::WordCounts::more_than_two))]
 pub(crate) fn two_words(words: &[Name]) -> Result<(&[u8], &[u8]), Stop>
     requires { AreShort words.now }
-    ensures read { Gives (λ pair. (pair.0.now, pair.1.now)) (two_words words.now) result }
+    ensures read { Gives IsStop (λ pair. (pair.0.now, pair.1.now)) (two_words words.now) result }
     ensures first { IfOk result (λ pair. length pair.0.now ≤ 1048576) }
     ensures second { IfOk result (λ pair. length pair.1.now ≤ 1048576) }
 {
@@ -56,7 +57,7 @@ pub(crate) fn two_words(words: &[Name]) -> Result<(&[u8], &[u8]), Stop>
 #[tactic(auto, using(crate::proofs::WordCounts::more_than_optional_and_one))]
 pub(crate) fn optional_and_one(words: &[Name]) -> Result<(Option<&[u8]>, &[u8]), Stop>
     requires { AreShort words.now }
-    ensures read { Gives (λ pair. (option_map (λ word. word.now) pair.0, pair.1.now)) (optional_and_one words.now) result }
+    ensures read { Gives IsStop (λ pair. (option_map (λ word. word.now) pair.0, pair.1.now)) (optional_and_one words.now) result }
     ensures optional { IfOk result (λ pair. IfSome pair.0 (λ word. length word.now ≤ 1048576)) }
     ensures last { IfOk result (λ pair. length pair.1.now ≤ 1048576) }
 {
@@ -72,7 +73,7 @@ pub(crate) fn optional_and_one(words: &[Name]) -> Result<(Option<&[u8]>, &[u8]),
 #[tactic(auto, using(crate::proofs::WordCounts::more_than_two_and_optional))]
 pub(crate) fn two_and_optional(words: &[Name]) -> Result<(&[u8], &[u8], Option<&[u8]>), Stop>
     requires { AreShort words.now }
-    ensures read { Gives (λ all. (all.0.now, all.1.now, option_map (λ word. word.now) all.2)) (two_and_optional words.now) result }
+    ensures read { Gives IsStop (λ all. (all.0.now, all.1.now, option_map (λ word. word.now) all.2)) (two_and_optional words.now) result }
     ensures first { IfOk result (λ all. length all.0.now ≤ 1048576) }
 {
     match words {

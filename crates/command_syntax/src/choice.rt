@@ -1,7 +1,8 @@
 //! Words that are one of a few.
 ghost use Rattle.std.specs.Prelude.{◌≡◌};
 ghost use Rattle.command_syntax.specs.Choice.{direction_of, kind_of, skip_air_of};
-ghost use Rattle.command_syntax.specs.Read.{Gives};
+ghost use Rattle.block_state.specs.Read.{Gives};
+ghost use Rattle.command_syntax.specs.Read.{IsStop};
 
 use crate::fault::LineFault;
 use crate::stop::Stop;
@@ -9,7 +10,7 @@ use edit_terms::{Direction, Kind};
 
 /// A direction, or its first letter.
 pub(crate) fn direction_of(word: &[u8]) -> Result<Direction, Stop>
-    ensures { Gives (λ d. d) (direction_of word.now) result }
+    ensures { Gives IsStop (λ d. d) (direction_of word.now) result }
 {
     if word == b"north".as_slice() || word == b"n".as_slice() {
         return Ok(Direction::North);
@@ -34,7 +35,7 @@ pub(crate) fn direction_of(word: &[u8]) -> Result<Direction, Stop>
 
 /// The shape of a selection.
 pub(crate) fn kind_of(word: &[u8]) -> Result<Kind, Stop>
-    ensures { Gives (λ kind. kind) (kind_of word.now) result }
+    ensures { Gives IsStop (λ kind. kind) (kind_of word.now) result }
 {
     if word == b"cuboid".as_slice() {
         return Ok(Kind::Cuboid);
@@ -50,7 +51,7 @@ pub(crate) fn kind_of(word: &[u8]) -> Result<Kind, Stop>
 
 /// The option of pasting: whether the clipboard's air stays out.
 pub(crate) fn skip_air_of(word: &[u8]) -> Result<bool, Stop>
-    ensures { Gives (λ skip_air. skip_air) (skip_air_of word.now) result }
+    ensures { Gives IsStop (λ skip_air. skip_air) (skip_air_of word.now) result }
 {
     if word == b"-a".as_slice() {
         return Ok(true);

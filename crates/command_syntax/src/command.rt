@@ -3,7 +3,8 @@ ghost use Rattle.std.specs.Prelude.{◌≡◌, ◌≤◌, true, length, IfOk};
 ghost use Rattle.run_terms.specs.Limits.{is_command_within};
 ghost use Rattle.command_syntax.specs.Words.{AreShort};
 ghost use Rattle.command_syntax.specs.Command.{command_with, command_from, command_of};
-ghost use Rattle.command_syntax.specs.Read.{Gives};
+ghost use Rattle.block_state.specs.Read.{Gives};
+ghost use Rattle.command_syntax.specs.Read.{IsStop};
 
 mod copying;
 mod filling;
@@ -21,7 +22,7 @@ use std::alloc::Global;
 /// The command of a line of at most 1,048,576 bytes.
 pub(crate) fn command_of(alloc: Global, line: &[u8]) -> Result<Command, Stop>
     requires { length line.now ≤ 1048576 }
-    ensures read { Gives (λ command. command) (command_of line.now) result }
+    ensures read { Gives IsStop (λ command. command) (command_of line.now) result }
     ensures within { IfOk result (λ command. is_command_within command ≡ true) }
 {
     let words = words_of(alloc, line)?;
@@ -30,7 +31,7 @@ pub(crate) fn command_of(alloc: Global, line: &[u8]) -> Result<Command, Stop>
 
 fn command_from(alloc: Global, words: &[Name]) -> Result<Command, Stop>
     requires { AreShort words.now }
-    ensures read { Gives (λ command. command) (command_from words.now) result }
+    ensures read { Gives IsStop (λ command. command) (command_from words.now) result }
     ensures within { IfOk result (λ command. is_command_within command ≡ true) }
 {
     let [word, behind @ ..] = words else {
@@ -45,7 +46,7 @@ fn command_from(alloc: Global, words: &[Name]) -> Result<Command, Stop>
 /// The command of the words behind its own.
 fn command_with(alloc: Global, verb: Verb, words: &[Name]) -> Result<Command, Stop>
     requires { AreShort words.now }
-    ensures read { Gives (λ command. command) (command_with verb words.now) result }
+    ensures read { Gives IsStop (λ command. command) (command_with verb words.now) result }
     ensures within { IfOk result (λ command. is_command_within command ≡ true) }
 {
     match verb {

@@ -31,7 +31,6 @@
 mod arguments;
 mod choice;
 mod command;
-mod cut;
 mod fault;
 mod line;
 mod number;

@@ -2,10 +2,10 @@
 ghost use Rattle.std.specs.Prelude.{◌≡◌, ◌≤◌, ◌+◌, ◌∷◌, [], not, length, MatchOption, IfSome};
 ghost use Rattle.std.specs.List.{find};
 ghost use Rattle.command_syntax.specs.Text.{is_blank};
-ghost use Rattle.command_syntax.specs.Lines.{without_return, lines_from, is_skipped, told};
+ghost use Rattle.command_syntax.specs.Lines.{without_return, lines_from, is_skipped, significant};
 ghost use Rattle.command_syntax.specs.Cursor.{line_now};
 
-use crate::cut::split_once;
+use block_state::split_once;
 use std::marker::Model;
 
 /// A line without its end, and its number in the script.
@@ -46,8 +46,8 @@ impl<'a> Lines<'a> {
     }
 
     /// The next line that isn't skipped. None where none is left.
-    pub(crate) fn next_told(&mut self) -> Option<NumberedLine<'a>>
-        ensures cases { MatchOption result (told self.old ≡ []) (λ l. told self.old ≡ line_now l ∷ told self.new) }
+    pub(crate) fn next_significant(&mut self) -> Option<NumberedLine<'a>>
+        ensures cases { MatchOption result (significant self.old ≡ []) (λ l. significant self.old ≡ line_now l ∷ significant self.new) }
         ensures within { IfSome result (λ l. length l.text.now ≤ 1048576) }
     {
         while let Some(line) = self.next() {
@@ -96,14 +96,14 @@ fn without_return(line: &[u8]) -> &[u8]
 fn is_skipped(line: &[u8]) -> bool
     ensures { result ≡ is_skipped line.now }
 {
-    match first_told(line) {
+    match first_nonblank(line) {
         None => true,
         Some(b) => b == b'#',
     }
 }
 
 /// The first byte that isn't a blank.
-fn first_told(line: &[u8]) -> Option<u8>
+fn first_nonblank(line: &[u8]) -> Option<u8>
     ensures { result ≡ find (λ b. not (is_blank b)) line.now }
 {
     line.iter().copied().find(|b| !is_blank(*b))

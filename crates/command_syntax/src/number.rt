@@ -1,18 +1,18 @@
 //! Numbers of a script.
-ghost use Rattle.std.specs.Prelude.{◌≡◌, ◌+◌, ◌-◌, ◌*◌, ◌^◌, ◌<◌, ◌≤◌, true, length, take, nat_abs, neg_ℤ, pos, Option, option_map, IfSome, IfOk};
-ghost use Rattle.std.specs.Char.{is_ascii_digit};
-ghost use Rattle.std.specs.List.{list_all};
-ghost use Rattle.std.specs.Str.Parse.{digits_value};
+ghost use Rattle.std.specs.Prelude.{◌≡◌, ◌≤◌, true, nat_abs, neg_ℤ, pos, Option, option_map, IfOk};
 ghost use Rattle.run_terms.specs.Limits.{is_count, is_radius, is_height, is_one_of};
-ghost use Rattle.command_syntax.specs.Number.{is_digits, natural_of, number_of, number_reading, limited, count_of, radius_of, height_of, quarters_in, quarters_of};
-ghost use Rattle.command_syntax.specs.Read.{Gives};
+ghost use Rattle.term_text.specs.Digits.{natural_of};
+ghost use Rattle.command_syntax.specs.Number.{number_of, number_reading, limited, count_of, radius_of, height_of, quarters_in, quarters_of};
+ghost use Rattle.block_state.specs.Read.{Gives};
+ghost use Rattle.command_syntax.specs.Read.{IsStop};
 
 use crate::fault::LineFault;
 use crate::stop::Stop;
+use term_text::natural_of;
 
 /// A count of copies, blocks or edits: 1 to 1,000.
 pub(crate) fn count_of(word: &[u8]) -> Result<u32, Stop>
-    ensures read { Gives (λ n. n) (count_of word.now) result }
+    ensures read { Gives IsStop (λ n. n) (count_of word.now) result }
     ensures within { IfOk result (λ n. is_count n ≡ true) }
 {
     limited(&number_reading(word)?, 1, 1_000)
@@ -20,7 +20,7 @@ pub(crate) fn count_of(word: &[u8]) -> Result<u32, Stop>
 
 /// A radius: 0 to 1,000.
 pub(crate) fn radius_of(word: &[u8]) -> Result<u32, Stop>
-    ensures read { Gives (λ n. n) (radius_of word.now) result }
+    ensures read { Gives IsStop (λ n. n) (radius_of word.now) result }
     ensures within { IfOk result (λ n. is_radius n ≡ true) }
 {
     limited(&number_reading(word)?, 0, 1_000)
@@ -28,7 +28,7 @@ pub(crate) fn radius_of(word: &[u8]) -> Result<u32, Stop>
 
 /// A height: 1 to 4,096.
 pub(crate) fn height_of(word: &[u8]) -> Result<u32, Stop>
-    ensures read { Gives (λ n. n) (height_of word.now) result }
+    ensures read { Gives IsStop (λ n. n) (height_of word.now) result }
     ensures within { IfOk result (λ n. is_height n ≡ true) }
 {
     limited(&number_reading(word)?, 1, 4_096)
@@ -36,7 +36,7 @@ pub(crate) fn height_of(word: &[u8]) -> Result<u32, Stop>
 
 /// The quarter turns of an angle: 90, 180 or 270 degrees.
 pub(crate) fn quarters_of(word: &[u8]) -> Result<u8, Stop>
-    ensures read { Gives (λ n. n) (quarters_of word.now) result }
+    ensures read { Gives IsStop (λ n. n) (quarters_of word.now) result }
     ensures within { IfOk result (λ n. is_one_of 1 3 n ≡ true) }
 {
     let angle = limited(&number_reading(word)?, 90, 270)?;
@@ -44,7 +44,7 @@ pub(crate) fn quarters_of(word: &[u8]) -> Result<u8, Stop>
 }
 
 fn quarters_in(angle: u32) -> Result<u8, Stop>
-    ensures read { Gives (λ n. n) (quarters_in angle) result }
+    ensures read { Gives IsStop (λ n. n) (quarters_in angle) result }
     ensures within { IfOk result (λ n. is_one_of 1 3 n ≡ true) }
 {
     if angle == 90 {
@@ -61,7 +61,7 @@ fn quarters_in(angle: u32) -> Result<u8, Stop>
 
 /// The number, which is to be from low to high.
 fn limited(number: &i64, low: u32, high: u32) -> Result<u32, Stop>
-    ensures read { Gives (λ n. n) (limited low high number.now) result }
+    ensures read { Gives IsStop (λ n. n) (limited low high number.now) result }
     ensures low { IfOk result (λ n. low ≤ n) }
     ensures high { IfOk result (λ n. n ≤ high) }
 {
@@ -73,7 +73,7 @@ fn limited(number: &i64, low: u32, high: u32) -> Result<u32, Stop>
 
 /// The number of a word.
 fn number_reading(word: &[u8]) -> Result<i64, Stop>
-    ensures { Gives (λ n. n) (number_reading word.now) result }
+    ensures { Gives IsStop (λ n. n) (number_reading word.now) result }
 {
     match number_of(word) {
         Some(number) => Ok(number),
@@ -92,50 +92,15 @@ pub(crate) fn number_of(bytes: &[u8]) -> Option<i64>
 }
 
 fn negative_of(digits: &[u8]) -> Option<i64>
-    ensures { result ≡ option_map (λ n. neg_ℤ (pos n)) (natural_of digits.now) }
+    ensures { result ≡ option_map (λ n. neg_ℤ (pos n)) (natural_of 10 digits.now) }
 {
-    let natural = natural_of(digits)?;
+    let natural = natural_of(digits, 10)?;
     Some(-(natural as i64))
 }
 
 fn positive_of(digits: &[u8]) -> Option<i64>
-    ensures { result ≡ option_map pos (natural_of digits.now) }
+    ensures { result ≡ option_map pos (natural_of 10 digits.now) }
 {
-    let natural = natural_of(digits)?;
+    let natural = natural_of(digits, 10)?;
     Some(natural as i64)
-}
-
-fn natural_of(bytes: &[u8]) -> Option<u64>
-    ensures value { result ≡ natural_of bytes.now }
-    ensures below { IfSome result (λ n. n < 10 ^ 10) }
-{
-    if is_digits(bytes) {
-        Some(value_of(bytes))
-    } else {
-        None
-    }
-}
-
-fn value_of(digits: &[u8]) -> u64
-    requires { is_digits digits.now ≡ true }
-    ensures value { result ≡ digits_value 10 digits.now }
-    ensures below { result < 10 ^ 10 }
-{
-    let mut value = 0;
-    for digit in digits {
-        value = value * 10 + (*digit - b'0') as u64;
-    }
-    value
-}
-
-fn is_digits(bytes: &[u8]) -> bool
-    ensures { result ≡ is_digits bytes.now }
-{
-    !bytes.is_empty() && bytes.len() <= 10 && are_digits(bytes)
-}
-
-fn are_digits(bytes: &[u8]) -> bool
-    ensures { result ≡ list_all is_ascii_digit bytes.now }
-{
-    bytes.iter().all(|b| b.is_ascii_digit())
 }

@@ -3,7 +3,8 @@ ghost use Rattle.std.specs.Prelude.{◌≡◌, ◌≤◌, [], ◌∷◌, true, l
 ghost use Rattle.std.specs.List.{list_all};
 ghost use Rattle.run_terms.specs.Limits.{is_one_of};
 ghost use Rattle.command_syntax.specs.Player.{is_name_byte, is_player_name, player_named, player_from, player_of};
-ghost use Rattle.command_syntax.specs.Read.{Reads};
+ghost use Rattle.block_state.specs.Read.{Gives};
+ghost use Rattle.command_syntax.specs.Read.{IsScriptFault};
 
 use crate::fault::ScriptFault;
 use crate::stop::Stop;
@@ -14,7 +15,7 @@ use std::alloc::Global;
 /// The player of a line of at most 1,048,576 bytes: `player` and a name.
 pub(crate) fn player_of(alloc: Global, line: &[u8]) -> Result<Name, ScriptFault>
     requires { length line.now ≤ 1048576 }
-    ensures read { Reads (λ name. name) (player_of line.now) result }
+    ensures read { Gives IsScriptFault (λ name. name) (player_of line.now) result }
     ensures within { IfOk result (λ name. is_one_of 1 16 (length name) ≡ true) }
 {
     match words_of(alloc, line) {
@@ -25,7 +26,7 @@ pub(crate) fn player_of(alloc: Global, line: &[u8]) -> Result<Name, ScriptFault>
 }
 
 fn player_from(alloc: Global, words: &[Name]) -> Result<Name, ScriptFault>
-    ensures read { Reads (λ name. name) (player_from words.now) result }
+    ensures read { Gives IsScriptFault (λ name. name) (player_from words.now) result }
     ensures within { IfOk result (λ name. is_one_of 1 16 (length name) ≡ true) }
 {
     let [word, names @ ..] = words else {
@@ -40,7 +41,7 @@ fn player_from(alloc: Global, words: &[Name]) -> Result<Name, ScriptFault>
 /// The player whose names these are.
 #[tactic(auto, using(crate::proofs::WordCounts::more_than_one_name))]
 fn player_named(alloc: Global, names: &[Name]) -> Result<Name, ScriptFault>
-    ensures read { Reads (λ name. name) (player_named names.now) result }
+    ensures read { Gives IsScriptFault (λ name. name) (player_named names.now) result }
     ensures within { IfOk result (λ name. is_one_of 1 16 (length name) ≡ true) }
 {
     match names {
@@ -51,7 +52,7 @@ fn player_named(alloc: Global, names: &[Name]) -> Result<Name, ScriptFault>
 }
 
 fn good_name(alloc: Global, name: &[u8]) -> Result<Name, ScriptFault>
-    ensures read { Reads (λ name. name) (player_named (name.now ∷ [])) result }
+    ensures read { Gives IsScriptFault (λ name. name) (player_named (name.now ∷ [])) result }
     ensures within { IfOk result (λ name. is_one_of 1 16 (length name) ≡ true) }
 {
     if is_player_name(name) {

@@ -1,20 +1,22 @@
 //! Positions of a script.
-ghost use Rattle.std.specs.Prelude.{◌≡◌, true, negsuc, Option, Some, None, IfOk};
+ghost use Rattle.std.specs.Prelude.{◌≡◌, ◌≢◌, ◌∷◌, [], true, length, negsuc, Option, Some, None, IfOk, MatchOption};
 ghost use Rattle.edit_terms.specs.Area.{is_from, is_on_map};
+ghost use Rattle.edit_terms.specs.StateText.{cut_at};
 ghost use Rattle.command_syntax.specs.Number.{number_of};
 ghost use Rattle.command_syntax.specs.Position.{position_at, position_of};
-ghost use Rattle.command_syntax.specs.Read.{Gives};
+ghost use Rattle.block_state.specs.Read.{Gives};
+ghost use Rattle.command_syntax.specs.Read.{IsStop};
 
-use crate::cut::three_parts;
 use crate::fault::LineFault;
 use crate::number::number_of;
 use crate::stop::Stop;
+use block_state::{split_once, two_parts};
 use edit_terms::Pos;
 
 /// The position of a word: three numbers within the limits, with commas between.
 #[tactic(auto, using(crate::proofs::Positions::position_of_three, crate::proofs::Positions::position_of_others))]
 pub(crate) fn position_of(word: &[u8]) -> Result<Pos, Stop>
-    ensures read { Gives (λ p. p) (position_of word.now) result }
+    ensures read { Gives IsStop (λ p. p) (position_of word.now) result }
     ensures within { IfOk result (λ p. is_on_map p ≡ true) }
 {
     let Some((x, y, z)) = three_parts(word, b',') else {
@@ -23,8 +25,18 @@ pub(crate) fn position_of(word: &[u8]) -> Result<Pos, Stop>
     position_from(x, y, z)
 }
 
+/// The three parts around two separators. None where there aren't exactly two.
+fn three_parts(bytes: &[u8], separator: u8) -> Option<(&[u8], &[u8], &[u8])>
+    ensures { MatchOption result (length (cut_at separator bytes.now) ≢ 3)
+        (λ cut. cut_at separator bytes.now ≡ cut.0.now ∷ cut.1.now ∷ cut.2.now ∷ []) }
+{
+    let (first, rest) = split_once(bytes, separator)?;
+    let (second, third) = two_parts(rest, separator)?;
+    Some((first, second, third))
+}
+
 fn position_from(x: &[u8], y: &[u8], z: &[u8]) -> Result<Pos, Stop>
-    ensures read { Gives (λ p. p) (position_at (number_of x.now) (number_of y.now) (number_of z.now)) result }
+    ensures read { Gives IsStop (λ p. p) (position_at (number_of x.now) (number_of y.now) (number_of z.now)) result }
     ensures within { IfOk result (λ p. is_on_map p ≡ true) }
 {
     let Some(x) = number_of(x) else {
@@ -40,7 +52,7 @@ fn position_from(x: &[u8], y: &[u8], z: &[u8]) -> Result<Pos, Stop>
 }
 
 fn position_at(x: &i64, y: &i64, z: &i64) -> Result<Pos, Stop>
-    ensures read { Gives (λ p. p) (position_at (Some x.now) (Some y.now) (Some z.now)) result }
+    ensures read { Gives IsStop (λ p. p) (position_at (Some x.now) (Some y.now) (Some z.now)) result }
     ensures within { IfOk result (λ p. is_on_map p ≡ true) }
 {
     if is_across(x) && is_high(y) && is_across(z) {

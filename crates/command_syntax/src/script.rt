@@ -2,10 +2,11 @@
 ghost use Rattle.std.specs.Prelude.{◌≡◌, ◌≤◌, ◌<◌, ◌++◌, ◌∷◌, [], true, length, nat_le, position, OnOk, Ok, IfOk, IfErr, IfSome, All};
 ghost use Rattle.run_terms.specs.Limits.{IsScriptWithin, is_command_within};
 ghost use Rattle.command_syntax.specs.declared.fault.ScriptFault.TheVariants.{Memory};
-ghost use Rattle.command_syntax.specs.Lines.{told};
+ghost use Rattle.command_syntax.specs.Lines.{significant};
 ghost use Rattle.command_syntax.specs.Cursor.{line_now};
 ghost use Rattle.command_syntax.specs.Script.{numbered, judged, commands_of, script_of_lines, script_of_bytes};
-ghost use Rattle.command_syntax.specs.Read.{Reads, Tells};
+ghost use Rattle.block_state.specs.Read.{Gives};
+ghost use Rattle.command_syntax.specs.Read.{IsScriptFault};
 
 use crate::command::command_of;
 use crate::fault::ScriptFault;
@@ -34,7 +35,7 @@ const MOST_COMMANDS: u32 = 10_000;
 pub fn read_script(alloc: Global, bytes: &[u8]) -> Result<Script, ScriptFault>
     requires { length bytes.now ≤ 1048576 }
     ensures read { IfOk result (λ script. script_of_bytes bytes.now ≡ Ok script) }
-    ensures fault { IfErr result (λ fault. Tells (script_of_bytes bytes.now) fault) }
+    ensures fault { IfErr result (λ fault. IsScriptFault (script_of_bytes bytes.now) fault) }
     ensures within { IfOk result (λ script. IsScriptWithin script) }
 {
     if let Some(byte) = first_beyond_ascii(bytes) {
@@ -54,10 +55,10 @@ fn first_beyond_ascii(bytes: &[u8]) -> Option<usize>
 
 /// The script of these lines.
 fn read_lines(alloc: Global, lines: &mut Lines) -> Result<Script, ScriptFault>
-    ensures read { Reads (λ script. script) (script_of_lines (told lines.old)) result }
+    ensures read { Gives IsScriptFault (λ script. script) (script_of_lines (significant lines.old)) result }
     ensures within { IfOk result (λ script. IsScriptWithin script) }
 {
-    let Some(first) = lines.next_told() else {
+    let Some(first) = lines.next_significant() else {
         return Err(ScriptFault::NoPlayer);
     };
     let player = player_of(alloc, first.text)?;
@@ -66,15 +67,15 @@ fn read_lines(alloc: Global, lines: &mut Lines) -> Result<Script, ScriptFault>
 }
 
 /// The commands of these lines.
-#[tactic(auto, using(crate::proofs::Joined::joined_none, crate::proofs::Joined::joined_next, crate::proofs::Joined::joined_all, crate::proofs::Within::none_within, crate::proofs::Within::one_within))]
+#[tactic(auto, using(term_text::proofs::Joined::joined_none, term_text::proofs::Joined::joined_all, crate::proofs::Within::none_within, crate::proofs::Within::one_within))]
 fn read_commands(alloc: Global, lines: &mut Lines) -> Result<Items<Line>, ScriptFault>
-    ensures read { Reads (λ lines. lines) (commands_of (told lines.old)) result }
+    ensures read { Gives IsScriptFault (λ lines. lines) (commands_of (significant lines.old)) result }
     ensures few { IfOk result (λ lines. length lines ≤ 10000) }
     ensures within { IfOk result (λ lines. All (λ line. is_command_within line.command ≡ true) lines) }
 {
     let mut commands = Vec::new(alloc);
     let mut count = 0;
-    while let Some(line) = lines.next_told() {
+    while let Some(line) = lines.next_significant() {
         let command = read_behind(alloc, count, &line)?;
         count += 1;
         put_last(&mut commands, command)?;
@@ -94,7 +95,7 @@ fn put_last(commands: &mut Vec<Line>, command: Line) -> Result<(), ScriptFault>
 /// The command of a line behind so many others.
 fn read_behind(alloc: Global, before: u32, line: &NumberedLine) -> Result<Line, ScriptFault>
     requires { length line.now.text.now ≤ 1048576 }
-    ensures read { Reads (λ line. line) (judged (before, line_now line.now)) result }
+    ensures read { Gives IsScriptFault (λ line. line) (judged (before, line_now line.now)) result }
     ensures within { IfOk result (λ line. is_command_within line.command ≡ true) }
     ensures few { IfOk result (λ _. before < 10000) }
 {
@@ -107,7 +108,7 @@ fn read_behind(alloc: Global, before: u32, line: &NumberedLine) -> Result<Line, 
 /// The command of a line.
 fn read_line(alloc: Global, line: &NumberedLine) -> Result<Line, ScriptFault>
     requires { length line.now.text.now ≤ 1048576 }
-    ensures read { Reads (λ line. line) (numbered (line_now line.now)) result }
+    ensures read { Gives IsScriptFault (λ line. line) (numbered (line_now line.now)) result }
     ensures within { IfOk result (λ line. is_command_within line.command ≡ true) }
 {
     let number = line.number;

@@ -4,7 +4,6 @@ ghost use Rattle.command_syntax.specs.declared.stop.Stop.TheVariants as stops;
 
 use crate::fault::LineFault;
 use memory::Memory;
-use std::alloc::{AllocError, AllocFailed};
 
 /// The line's first fault, or a refused allocation.
 #[derive(Debug, Drop)]
@@ -17,23 +16,6 @@ impl From<Memory> for Stop {
     ghost from_gives = { λ _ stop. stop ≡ stops.Memory };
 
     fn from(_error: Memory) -> Stop {
-        Stop::Memory
-    }
-}
-
-impl From<AllocError> for Stop {
-    ghost from_gives = { λ _ stop. stop ≡ stops.Memory };
-
-    fn from(_error: AllocError) -> Stop {
-        Stop::Memory
-    }
-}
-
-/// The value that found no room is dropped.
-impl<T: Drop> From<AllocFailed<T>> for Stop {
-    ghost from_gives = { λ _ stop. stop ≡ stops.Memory };
-
-    fn from(_error: AllocFailed<T>) -> Stop {
         Stop::Memory
     }
 }

@@ -2,12 +2,13 @@
 ghost use Rattle.std.specs.Prelude.{◌≡◌, ◌≤◌, ◌++◌, [], ◌∷◌, List, None, length, map, OnOk, IfOk};
 ghost use Rattle.command_syntax.specs.Words.{Mark, Gap, Part, mark_of, words_of, AreShort};
 ghost use Rattle.command_syntax.specs.Cursor.{words_with};
-ghost use Rattle.command_syntax.specs.Read.{Gives};
+ghost use Rattle.block_state.specs.Read.{Gives};
+ghost use Rattle.command_syntax.specs.Read.{IsStop};
 
-use crate::cut::split_once;
 use crate::fault::LineFault;
 use crate::line::is_blank;
 use crate::stop::Stop;
+use block_state::split_once;
 use edit_terms::Name;
 use memory::Memory;
 use std::alloc::Global;
@@ -16,7 +17,7 @@ use std::alloc::Global;
 #[tactic(auto, using(crate::proofs::ShortWords::words_short))]
 pub(crate) fn words_of(alloc: Global, line: &[u8]) -> Result<Vec<Name>, Stop>
     requires { length line.now ≤ 1048576 }
-    ensures read { Gives (λ words. words.items) (words_of line.now) result }
+    ensures read { Gives IsStop (λ words. words.items) (words_of line.now) result }
     ensures short { IfOk result (λ words. AreShort words.items) }
 {
     let words = read_words(alloc, line)?;
@@ -24,7 +25,7 @@ pub(crate) fn words_of(alloc: Global, line: &[u8]) -> Result<Vec<Name>, Stop>
 }
 
 fn read_words(alloc: Global, line: &[u8]) -> Result<Vec<Name>, Stop>
-    ensures { Gives (λ words. words.items) (words_of line.now) result }
+    ensures { Gives IsStop (λ words. words.items) (words_of line.now) result }
 {
     let mut words = WordsRead {
         done: Vec::new(alloc),

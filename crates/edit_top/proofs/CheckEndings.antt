@@ -9,7 +9,7 @@ use Rattle.edit_top.specs.declared.status.Status.TheVariants.{Done, Usage, ReadF
 use Rattle.edit_top.specs.Words.{FileNames}
 use Rattle.edit_top.specs.Status.{fault_text}
 use Rattle.edit_top.specs.Reading.{IsWorldCause, world_limit}
-use Rattle.edit_top.specs.Ends.{IsTold, NothingFailed, IsDoneOrMemory, IsNoFailure}
+use Rattle.edit_top.specs.Ends.{IsPrinted, NothingFailed, IsDoneOrMemory, IsNoFailure}
 use Rattle.edit_top.specs.CheckText.{checked_by, world_alone}
 use Rattle.edit_top.specs.CheckEnds.{IsFileText, CheckEnds, IsCheckStopped, IsGoodCheck, Prints}
 use Rattle.edit_top.proofs.Completeness.{not_refused, not_long}
@@ -56,13 +56,13 @@ module _ (words : List (List ℕ)) (names : FileNames) (named : AreNamed words n
       by_status OutOfMemory p = absurd p
 
   -- a check that the world's file stopped ends so
-  pub ends_refused : (status : Status) → IsWorldCause names before after status → IsTold shown told (fault_text names status) → CheckEnds words before after shown told status
-  ends_refused status cause message = by_status status (subst (λ (n : FileNames). IsWorldCause n before after status) named.is cause) (subst (λ (n : FileNames). IsTold shown told (fault_text n status)) named.is message)
+  pub ends_refused : (status : Status) → IsWorldCause names before after status → IsPrinted shown told (fault_text names status) → CheckEnds words before after shown told status
+  ends_refused status cause message = by_status status (subst (λ (n : FileNames). IsWorldCause n before after status) named.is cause) (subst (λ (n : FileNames). IsPrinted shown told (fault_text n status)) named.is message)
     where
-      stopped : (status : Status) → IsWorldCause (world_alone named.name) before after status → IsTold shown told (fault_text (world_alone named.name) status) → IsCheckStopped words before after shown told status
+      stopped : (status : Status) → IsWorldCause (world_alone named.name) before after status → IsPrinted shown told (fault_text (world_alone named.name) status) → IsCheckStopped words before after shown told status
       stopped status cause message = record { name = named.name; are = named.are; cause = cause; stays = stays; message = message }
 
-      by_status : (status : Status) → IsWorldCause (world_alone named.name) before after status → IsTold shown told (fault_text (world_alone named.name) status) → CheckEnds words before after shown told status
+      by_status : (status : Status) → IsWorldCause (world_alone named.name) before after status → IsPrinted shown told (fault_text (world_alone named.name) status) → CheckEnds words before after shown told status
       by_status Done cause message = absurd cause
       by_status PrintFault cause message = absurd cause
       by_status Usage cause message = absurd cause

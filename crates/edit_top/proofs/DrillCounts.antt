@@ -130,12 +130,12 @@ pub few_turns : (case : Workload) (outcome : Outcome) → IsWithinLimits case �
 few_turns case outcome within ran player = omega (arith, ran.whole player, few_lines case.scripts within.each player)
 
 -- The text of what was counted over an outcome of the drill is the drill's.
-pub drill_told : (number : ℕ) (case : Workload) (outcome : Outcome) (scripts : List Script) (order : List ℕ) (replies : List Reply) (changed : List ℕ) (census : List (List ℕ × ℕ)) (text : List ℕ)
+pub drill_printed : (number : ℕ) (case : Workload) (outcome : Outcome) (scripts : List Script) (order : List ℕ) (replies : List Reply) (changed : List ℕ) (census : List (List ℕ × ℕ)) (text : List ℕ)
     → case ≡ drill_workload number → IsOutcome case outcome → scripts ≡ case.scripts → order ≡ outcome.order → replies ≡ outcome.replies → IsCensus (world_of outcome.world) census
     → ((player : ℕ) → player < length scripts → get_or changed player 0 ≡ changed_in_turns order replies player (turns_of player order))
     → text ≡ drill_text number (map (λ player. (name_of scripts player, get_or changed player 0)) (range_with_len 0 (length scripts))) census (length order)
     → IsDrillText number text
-drill_told number case outcome scripts order replies changed census text is ran is_scripts is_order is_replies counted counts told = record {
+drill_printed number case outcome scripts order replies changed census text is ran is_scripts is_order is_replies counted counts told = record {
   order = outcome.order;
   whole = subst (λ (w : Workload). IsWholeOrder w.scripts outcome.order) is ran.whole;
   census = census;

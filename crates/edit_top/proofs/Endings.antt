@@ -9,7 +9,7 @@ use Rattle.edit_top.specs.declared.status.Status.{Status}
 use Rattle.edit_top.specs.declared.status.Status.TheVariants.{Done, Usage, ReadFault, TooLong, WorldRefused, ScriptRefused, DuplicatePlayer, TooManyJobs, SaveFault, PrintFault, OutOfMemory}
 use Rattle.edit_top.specs.Words.{Asked, asked_by}
 use Rattle.edit_top.specs.Outputs.{output_view, AreSaved, StopsSaving}
-use Rattle.edit_top.specs.Ends.{workload, IsRunOf, IsTold, saved_file, IsStopCause, Ends}
+use Rattle.edit_top.specs.Ends.{workload, IsRunOf, IsPrinted, saved_file, IsStopCause, Ends}
 use Rattle.edit_top.specs.RunText.{run_text}
 use Rattle.edit_top.specs.ShownOrder.{order_shown}
 use Rattle.edit_top.specs.Status.{fault_text}
@@ -100,7 +100,7 @@ module _ (words : List (List ℕ)) (asked : Asked) (are : asked_by words ≡ Som
 
 -- a run that stopped before its save ends so
 pub ends_stopped : (words : List (List ℕ)) (asked : Asked) (before after : StoreState) (shown told : OutputState) (status : Status) → asked_by words ≡ Some asked
-    → IsStopCause asked before after status → after.files ≡ before.files → IsTold shown told (fault_text asked.names status) → Ends words before after shown told status
+    → IsStopCause asked before after status → after.files ≡ before.files → IsPrinted shown told (fault_text asked.names status) → Ends words before after shown told status
 ends_stopped words asked before after shown told Done are cause stays message = absurd cause
 ends_stopped words asked before after shown told Usage are cause stays message = absurd cause
 ends_stopped words asked before after shown told SaveFault are cause stays message = absurd cause

@@ -2,7 +2,6 @@ pub mod Printing
 pub mod Messages
 pub mod Saving
 pub mod Endings
-pub mod Digits
 pub mod Writable
 pub mod Scripts
 pub mod ScriptFaults

@@ -9,7 +9,7 @@ use Rattle.std.proofs.lemmas.List.Concat.{flat_map-cons}
 use Rattle.std.proofs.Math.Seq.{take-append-add, take-length, drop-cons}
 use Rattle.run_ports.specs.Count.{Rose}
 use Rattle.run_ports.specs.Output.{OutputState, IsAppended, IsPartlyAppended, IsLaterOutput}
-use Rattle.edit_top.specs.Ends.{IsTold}
+use Rattle.edit_top.specs.Ends.{IsPrinted}
 
 -- one text appended after another
 pub appended_then : (before mid after : Option (List ℕ)) (a b : List ℕ) → IsAppended before mid a → IsAppended mid after b → IsAppended before after (a ++ b)
@@ -22,23 +22,23 @@ pub rose_since : (before mid after : ℕ) → before ≤ mid → Rose mid after 
 rose_since before mid after later rose = omega (arith, rose)
 
 -- the whole text
-pub told_whole : (before after : OutputState) (text : List ℕ) → IsAppended before.written after.written text → IsTold before after text
-told_whole before after text appended = record {
+pub printed_whole : (before after : OutputState) (text : List ℕ) → IsAppended before.written after.written text → IsPrinted before after text
+printed_whole before after text appended = record {
   kept = length text;
   part = subst (λ (t : List ℕ). IsAppended before.written after.written t) (sym (take-length text)) appended;
   whole = inl (omega arith);
 }
 
 -- a front, and a prefix of the next piece
-pub told_part : (before mid after : OutputState) (front piece rest : List ℕ) → IsAppended before.written mid.written front → IsLaterOutput before mid
-    → IsPartlyAppended mid.written after.written piece → Rose mid.faults after.faults → IsTold before after (front ++ (piece ++ rest))
-told_part before mid after front piece rest first later part rose =
+pub printed_part : (before mid after : OutputState) (front piece rest : List ℕ) → IsAppended before.written mid.written front → IsLaterOutput before mid
+    → IsPartlyAppended mid.written after.written piece → Rose mid.faults after.faults → IsPrinted before after (front ++ (piece ++ rest))
+printed_part before mid after front piece rest first later part rose =
     elim (cases_lt (length piece) part.kept) [
       | inl past ↦ cut (length piece) (omega arith) (take-length piece ∙ sym (take_all part.kept piece (omega arith)))
       | inr within ↦ cut part.kept within refl
     ]
   where
-    cut : (n : ℕ) → n ≤ length piece → take n piece ≡ take part.kept piece → IsTold before after (front ++ (piece ++ rest))
+    cut : (n : ℕ) → n ≤ length piece → take n piece ≡ take part.kept piece → IsPrinted before after (front ++ (piece ++ rest))
     cut n few same = record {
       kept = length front + n;
       part =

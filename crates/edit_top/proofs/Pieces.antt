@@ -10,7 +10,8 @@ use Rattle.std.proofs.lemmas.List.Concat.{flat_map-cons}
 use Rattle.std.proofs.lemmas.List.Elements.{All-append, All-cons, All-nil, All-weaker}
 use Rattle.std.proofs.lemmas.List.Splits.{slice_split_at}
 use Rattle.std.proofs.lemmas.List.Sums.{AllPass-from_list_all}
-use Rattle.command_syntax.specs.Text.{feed, parts}
+use Rattle.edit_terms.specs.StateText.{cut_at}
+use Rattle.command_syntax.specs.Text.{feed}
 use Rattle.edit_top.specs.ShownOrder.{space, but_last, lines_of_text, second_word}
 
 -- the byte doesn't stand in the text
@@ -56,7 +57,7 @@ without-decimal byte n below = decimal_all (λ b. eqb b byte ≡ false) (λ d sm
 
 -- pieces that a byte ends are the parts between that byte
 module _ (f piece : ℕ → List ℕ) (end : ℕ) (ends : (t : ℕ) → f t ≡ piece t ++ end ∷ []) (clear : (t : ℕ) → IsWithout end (piece t)) where
-  parts-flat_map : (ts rest : List ℕ) → parts end (flat_map f ts ++ rest) ≡ map piece ts ++ parts end rest
+  parts-flat_map : (ts rest : List ℕ) → cut_at end (flat_map f ts ++ rest) ≡ map piece ts ++ cut_at end rest
   parts-flat_map [] rest = refl
   parts-flat_map (t ∷ ts) rest =
       let more = flat_map f ts ++ rest in
@@ -65,7 +66,7 @@ module _ (f piece : ℕ → List ℕ) (end : ℕ) (ends : (t : ℕ) → f t ≡ 
       ∙ append_assoc (f t) (flat_map f ts) rest
       ∙ ap (λ (xs : List ℕ). xs ++ more) (ends t)
       ∙ append_assoc (piece t) (end ∷ []) more in
-      ap (parts end) front
+      ap (cut_at end) front
       ∙ slice_split_at (λ b. eqb b end) (piece t) end more (clear t) (eq-eqb end end refl)
       ∙ ap (λ (later : List (List ℕ)). piece t ∷ later) (parts-flat_map ts rest)
 
@@ -79,7 +80,7 @@ but_last-more {X} xs x =
 pub lines_before_last : (f line : ℕ → List ℕ) → ((t : ℕ) → f t ≡ line t ++ 10 ∷ []) → ((t : ℕ) → IsWithout feed (line t)) → (ts last : List ℕ) → IsWithout feed last
     → but_last (lines_of_text (flat_map f ts ++ (last ++ 10 ∷ []))) ≡ map line ts
 lines_before_last f line ends clear ts last clear_last =
-    let cut : parts feed (flat_map f ts ++ (last ++ 10 ∷ [])) ≡ (map line ts ++ last ∷ []) ++ [] ∷ [] =
+    let cut : cut_at feed (flat_map f ts ++ (last ++ 10 ∷ [])) ≡ (map line ts ++ last ∷ []) ++ [] ∷ [] =
     parts-flat_map f line 10 ends clear ts (last ++ 10 ∷ [])
     ∙ ap (λ (more : List (List ℕ)). map line ts ++ more) (slice_split_at (λ b. eqb b 10) last 10 [] clear_last refl)
     ∙ sym (append_assoc (map line ts) (last ∷ []) ([] ∷ [])) in

@@ -6,7 +6,7 @@ use Rattle.edit_terms.specs.declared.script.Script.{Script}
 use Rattle.command_syntax.specs.declared.fault.LineFault.{LineFault}
 use Rattle.command_syntax.specs.declared.fault.ScriptFault.{ScriptFault}
 use Rattle.command_syntax.specs.declared.fault.ScriptFault.TheVariants.{NoPlayer, BadPlayer}
-use Rattle.command_syntax.specs.Verdict.{both}
+use Rattle.term_text.specs.Verdict.{both}
 use Rattle.command_syntax.specs.Lines.{lines_of}
 use Rattle.command_syntax.specs.Words.{words_of}
 use Rattle.command_syntax.specs.Player.{is_player_name, player_named, player_from, player_in, player_of}

@@ -10,7 +10,7 @@ use Rattle.run_ports.specs.Store.{Files, StoreState, IsLater, IsLoaded}
 use Rattle.run_terms.specs.Limits.{IsScriptWithin}
 use Rattle.command_syntax.specs.declared.fault.ScriptFault.{ScriptFault}
 use Rattle.command_syntax.specs.declared.fault.ScriptFault.TheVariants as faults
-use Rattle.command_syntax.specs.Read.{Tells}
+use Rattle.command_syntax.specs.Read.{IsScriptFault}
 use Rattle.command_syntax.specs.Script.{script_of_bytes}
 use Rattle.edit_top.specs.declared.status.Status.{Status}
 use Rattle.edit_top.specs.declared.status.Status.TheVariants.{Done, Usage, ReadFault, TooLong, WorldRefused, ScriptRefused, DuplicatePlayer, TooManyJobs, SaveFault, PrintFault, OutOfMemory}
@@ -98,14 +98,14 @@ no_script (Some files) name bytes fault loaded within refused =
     subst (λ (file : Option (List ℕ)). IsSomeAnd file (λ bs. (length bs ≤ script_limit) × (script_of_bytes bs ≡ Err fault))) (sym loaded) (within, refused)
 
 -- the ending by a fault of the loaded bytes has its cause
-pub refusal_stops : (number : ℕ) (name bytes : List ℕ) (before after : StoreState) (fault : ScriptFault) → IsLoaded before.files name bytes → length bytes ≤ script_limit → Tells (script_of_bytes bytes) fault
+pub refusal_stops : (number : ℕ) (name bytes : List ℕ) (before after : StoreState) (fault : ScriptFault) → IsLoaded before.files name bytes → length bytes ≤ script_limit → IsScriptFault (script_of_bytes bytes) fault
     → IsLoadCause name before after (refusal number fault)
-refusal_stops number name bytes before after (faults.NotAscii byte) loaded within tells = no_script before.files name bytes (faults.NotAscii byte) loaded within tells
-refusal_stops number name bytes before after faults.NoPlayer loaded within tells = no_script before.files name bytes faults.NoPlayer loaded within tells
-refusal_stops number name bytes before after faults.BadPlayer loaded within tells = no_script before.files name bytes faults.BadPlayer loaded within tells
-refusal_stops number name bytes before after faults.TooManyLines loaded within tells = no_script before.files name bytes faults.TooManyLines loaded within tells
-refusal_stops number name bytes before after (faults.Line line fault) loaded within tells = no_script before.files name bytes (faults.Line line fault) loaded within tells.is
-refusal_stops number name bytes before after faults.Memory loaded within tells = tt
+refusal_stops number name bytes before after (faults.NotAscii byte) loaded within refused = no_script before.files name bytes (faults.NotAscii byte) loaded within refused
+refusal_stops number name bytes before after faults.NoPlayer loaded within refused = no_script before.files name bytes faults.NoPlayer loaded within refused
+refusal_stops number name bytes before after faults.BadPlayer loaded within refused = no_script before.files name bytes faults.BadPlayer loaded within refused
+refusal_stops number name bytes before after faults.TooManyLines loaded within refused = no_script before.files name bytes faults.TooManyLines loaded within refused
+refusal_stops number name bytes before after (faults.Line line fault) loaded within refused = no_script before.files name bytes (faults.Line line fault) loaded within refused.is
+refusal_stops number name bytes before after faults.Memory loaded within refused = tt
 
 -- and names the script of its number
 pub refusal_of_script : (number : ℕ) (fault : ScriptFault) → IsOfScript number (refusal number fault)

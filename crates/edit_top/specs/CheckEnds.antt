@@ -9,7 +9,7 @@ use Rattle.edit_top.specs.declared.status.Status.TheVariants.{Done, Usage, Print
 use Rattle.edit_top.specs.Words.{FileNames}
 use Rattle.edit_top.specs.Status.{fault_text}
 use Rattle.edit_top.specs.Reading.{HasWorld, IsWorldCause}
-use Rattle.edit_top.specs.Ends.{IsTold}
+use Rattle.edit_top.specs.Ends.{IsPrinted}
 use Rattle.edit_top.specs.CheckText.{checked_by, world_alone, check_usage_text, IsWorldText}
 
 -- a prefix of a text was put, and the failure was counted
@@ -47,7 +47,7 @@ pub record IsCheckHalfPrinted (words : List (List ℕ)) (before after : StoreSta
 pub record IsCheckMisused (words : List (List ℕ)) (before after : StoreState) (shown told : OutputState) : Type 0 where
   pub words_are : checked_by words ≡ None
   pub stays : after.files ≡ before.files
-  pub message : IsTold shown told check_usage_text
+  pub message : IsPrinted shown told check_usage_text
 
 -- a refusal: it has its cause at the world's file, and the files are as before
 pub record IsCheckStopped (words : List (List ℕ)) (before after : StoreState) (shown told : OutputState) (status : Status) : Type 0 where
@@ -55,7 +55,7 @@ pub record IsCheckStopped (words : List (List ℕ)) (before after : StoreState) 
   pub are : checked_by words ≡ Some name
   pub cause : IsWorldCause (world_alone name) before after status
   pub stays : after.files ≡ before.files
-  pub message : IsTold shown told (fault_text (world_alone name) status)
+  pub message : IsPrinted shown told (fault_text (world_alone name) status)
 
 -- Each ending of a check of these words, between two states of the file store and of the output. No other status has a
 -- cause at the world's file.

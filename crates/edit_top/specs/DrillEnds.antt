@@ -3,7 +3,7 @@ use Rattle.std.specs.Prelude.{◌≡◌, ℕ, List, Some, None, codes}
 use Rattle.run_ports.specs.Output.{OutputState, IsAppended}
 use Rattle.edit_top.specs.declared.status.Status.{Status}
 use Rattle.edit_top.specs.declared.status.Status.TheVariants.{Done, Usage, PrintFault, OutOfMemory}
-use Rattle.edit_top.specs.Ends.{IsTold}
+use Rattle.edit_top.specs.Ends.{IsPrinted}
 use Rattle.edit_top.specs.CheckEnds.{IsHalfPut}
 use Rattle.edit_top.specs.DrillText.{drilled_by, drill_usage_text, IsDrillText}
 
@@ -32,13 +32,13 @@ pub record IsDrillHalfPrinted (words : List (List ℕ)) (shown told : OutputStat
 -- the words aren't of the form
 pub record IsDrillMisused (words : List (List ℕ)) (shown told : OutputState) : Type 0 where
   pub words_are : drilled_by words ≡ None
-  pub message : IsTold shown told drill_usage_text
+  pub message : IsPrinted shown told drill_usage_text
 
 -- an allocation was refused
 pub record IsDrillStarved (words : List (List ℕ)) (shown told : OutputState) : Type 0 where
   pub number : ℕ
   pub are : drilled_by words ≡ Some number
-  pub message : IsTold shown told memory_text
+  pub message : IsPrinted shown told memory_text
 
 -- Each ending of a drill of these words, between two states of the output. It has no other.
 abbrev pub DrillEnds : List (List ℕ) → OutputState → OutputState → Status → Type 0

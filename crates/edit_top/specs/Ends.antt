@@ -49,7 +49,7 @@ module _ {words : List (List ℕ)} {told : Option Files} where
   printed_text run = run_text (workload run.asked run.loaded run.scripts) run.order
 
 -- a prefix of the message was put, and all of it where the output's faults didn't rise
-pub record IsTold (before after : OutputState) (text : List ℕ) : Type 0 where
+pub record IsPrinted (before after : OutputState) (text : List ℕ) : Type 0 where
   pub kept : ℕ
   pub part : IsAppended before.written after.written (take kept text)
   pub whole : (length text ≤ kept) ⊎ Rose before.faults after.faults
@@ -66,7 +66,7 @@ pub record IsHalfSaved (words : List (List ℕ)) (before after : StoreState) (sh
   pub run : IsRunOf words before.files
   pub rose : Rose (before.save_faults run.asked.names.out) (after.save_faults run.asked.names.out)
   pub torn : IsTorn before.files after.files run.asked.names.out (saved_file run)
-  pub message : IsTold shown told (fault_text run.asked.names SaveFault)
+  pub message : IsPrinted shown told (fault_text run.asked.names SaveFault)
 
 -- the print failed: the file is saved whole, a prefix of the text was put, and the failure was counted
 pub record IsHalfPrinted (words : List (List ℕ)) (before after : StoreState) (shown told : OutputState) : Type 0 where
@@ -79,7 +79,7 @@ pub record IsHalfPrinted (words : List (List ℕ)) (before after : StoreState) (
 pub record IsMisused (words : List (List ℕ)) (before after : StoreState) (shown told : OutputState) : Type 0 where
   pub words_are : asked_by words ≡ None
   pub stays : after.files ≡ before.files
-  pub message : IsTold shown told usage_text
+  pub message : IsPrinted shown told usage_text
 
 -- the world and the scripts were read, and their commands access chunks so often, more than a run may
 pub record IsTooMuch (asked : Asked) (told : Option Files) (jobs : ℕ) : Type 0 where
@@ -100,7 +100,7 @@ pub record IsStopped (words : List (List ℕ)) (before after : StoreState) (show
   pub are : asked_by words ≡ Some asked
   pub cause : IsStopCause asked before after status
   pub stays : after.files ≡ before.files
-  pub message : IsTold shown told (fault_text asked.names status)
+  pub message : IsPrinted shown told (fault_text asked.names status)
 
 -- Each ending of a run of these words, between two states of the file store and of the output.
 abbrev pub Ends : List (List ℕ) → StoreState → StoreState → OutputState → OutputState → Status → Type 0

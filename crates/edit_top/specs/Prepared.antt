@@ -20,7 +20,7 @@ use Rattle.edit_top.specs.Status.{fault_text}
 use Rattle.edit_top.specs.RunText.{run_text}
 use Rattle.edit_top.specs.Reading.{HasWorld, AreAllScripts}
 use Rattle.edit_top.specs.Outputs.{output_view, AreSaved, StopsSaving}
-use Rattle.edit_top.specs.Ends.{workload, IsTold}
+use Rattle.edit_top.specs.Ends.{workload, IsPrinted}
 
 -- the file and the text of one order of the scripts' commands over a world
 pub record IsMade (asked : Asked) (loaded : Loaded) (scripts : List Script) (prepared : Prepared) : Type 0 where
@@ -54,7 +54,7 @@ pub record IsAllOut (before after : StoreState) (shown told : OutputState) (prep
 -- a save failed, and the message was put
 pub record IsSaveStopped (names : FileNames) (before after : StoreState) (shown told : OutputState) (prepared : Prepared) : Type 0 where
   pub stopped : StopsSaving before after (map output_view prepared.outputs.items)
-  pub message : IsTold shown told (fault_text names SaveFault)
+  pub message : IsPrinted shown told (fault_text names SaveFault)
 
 -- all is saved, and a prefix of the text was put
 pub record IsPrintStopped (before after : StoreState) (shown told : OutputState) (prepared : Prepared) : Type 0 where

@@ -5,7 +5,8 @@ use Rattle.edit_terms.specs.declared.script.Script.{Script}
 use Rattle.edit_terms.specs.declared.outcome.Reply.{Reply}
 use Rattle.run_terms.specs.Order.{IsLegalOrder}
 use Rattle.command_syntax.specs.Player.{is_player_name}
-use Rattle.command_syntax.specs.Text.{feed, parts}
+use Rattle.edit_terms.specs.StateText.{cut_at}
+use Rattle.command_syntax.specs.Text.{feed}
 use Rattle.edit_top.specs.Reading.{has_player}
 use Rattle.edit_top.specs.RunText.{text_of_order}
 
@@ -19,11 +20,11 @@ but_last xs = take (length xs - 1) xs
 
 -- the lines of a text whose lines each end with a line feed
 abbrev pub lines_of_text : List ℕ → List (List ℕ)
-lines_of_text text = but_last (parts feed text)
+lines_of_text text = but_last (cut_at feed text)
 
 -- the second word of a line
 abbrev pub second_word : List ℕ → List ℕ
-second_word line = get_or (parts space line) 1 []
+second_word line = get_or (cut_at space line) 1 []
 
 -- the number of the first script whose player has this name
 abbrev pub player_of_name : List Script → List ℕ → ℕ

@@ -4,15 +4,15 @@ ghost use Rattle.std.specs.Prelude.{◌≡◌, map, string_bytes, option_map, If
 ghost use Rattle.run_ports.specs.Store.{IsLater};
 ghost use Rattle.edit_top.specs.Words.{names_view};
 ghost use Rattle.edit_top.specs.Reading.{IsWorldCause};
-ghost use Rattle.edit_top.specs.Ends.{NothingFailed, IsDoneOrMemory, IsNoFailure, IsTold};
+ghost use Rattle.edit_top.specs.Ends.{NothingFailed, IsDoneOrMemory, IsNoFailure, IsPrinted};
 ghost use Rattle.edit_top.specs.CheckText.{checked_by, world_alone, check_usage_text};
 ghost use Rattle.edit_top.specs.CheckEnds.{CheckEnds, IsGoodCheck, IsFileText};
 
 use crate::answering::print;
 use crate::check_text::world_text;
 use crate::loading::load_world;
+use crate::message::{print_fault, print_message};
 use crate::status::Status;
-use crate::telling::{tell, tell_fault};
 use crate::words::Names;
 use run_ports::{Shelf, Sink};
 use std::alloc::Global;
@@ -47,12 +47,12 @@ fn check_words<F: Shelf, K: Sink>(
     ensures { CheckEnds (map string_bytes words.now) (F.seen shelf.old) (F.seen shelf.new) (K.seen out.old) (K.seen out.new) result }
 {
     let Some(names) = checked_by(words) else {
-        tell_check_usage(out);
+        print_check_usage(out);
         return Status::Usage;
     };
     match file_text(alloc, &names, shelf) {
         Err(status) => {
-            tell_fault(out, &names, &status);
+            print_fault(out, &names, &status);
             status
         }
         Ok(text) => print(out, &text),
@@ -77,10 +77,10 @@ fn checked_by(words: &[String]) -> Option<Names<'_>>
 }
 
 /// Prints the message where the words aren't of the form.
-fn tell_check_usage<K: Sink>(out: &mut K)
-    ensures { IsTold (K.seen out.old) (K.seen out.new) check_usage_text }
+fn print_check_usage<K: Sink>(out: &mut K)
+    ensures { IsPrinted (K.seen out.old) (K.seen out.new) check_usage_text }
 {
-    tell(out, &[b"fault: usage: check WORLD\n".as_slice()]);
+    print_message(out, &[b"fault: usage: check WORLD\n".as_slice()]);
 }
 
 /// The text of the world that the file gives.

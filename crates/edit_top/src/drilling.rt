@@ -2,21 +2,21 @@
 
 ghost use Rattle.std.specs.Prelude.{◌≡◌, map, string_bytes, IfOk};
 ghost use Rattle.run_ports.specs.Count.{Rose};
-ghost use Rattle.edit_top.specs.Ends.{IsDoneOrMemory, IsNoFailure, IsTold};
+ghost use Rattle.edit_top.specs.Ends.{IsDoneOrMemory, IsNoFailure, IsPrinted};
 ghost use Rattle.edit_top.specs.DrillText.{IsDrillText, drill_usage_text, drilled_by};
 ghost use Rattle.edit_top.specs.DrillEnds.{DrillEnds, IsGoodDrill, memory_text};
 
 use crate::answering::print;
 use crate::drill_text::drill_text;
+use crate::message::print_message;
 use crate::running::run_scripts;
 use crate::status::Status;
-use crate::telling::tell;
-use crate::words::number_of;
 use memory::Memory;
 use run_ports::{Gate, Sink};
 use std::alloc::Global;
 use std::sync::Wait;
 use std::thread::Threads;
+use term_text::natural_between;
 use world_gen::drill_case;
 
 /// Makes the workload of NUMBER, runs it and prints what each player changed and the states of the last world.
@@ -45,12 +45,12 @@ fn drill_words<K: Sink>(alloc: Global, words: &[String], out: &mut K) -> Status
     ensures { DrillEnds (map string_bytes words.now) (K.seen out.old) (K.seen out.new) result }
 {
     let Some(number) = drilled_by(words) else {
-        tell_drill_usage(out);
+        print_drill_usage(out);
         return Status::Usage;
     };
     match drilled_text(alloc, number) {
         Err(Memory) => {
-            tell_memory(out);
+            print_memory(out);
             Status::OutOfMemory
         }
         Ok(text) => print(out, &text),
@@ -67,21 +67,21 @@ fn drilled_by(words: &[String]) -> Option<u64>
     if call.as_str() != "drill" {
         return None;
     }
-    number_of(number.as_str(), 20, 0, u64::MAX)
+    natural_between(number.as_str().as_bytes(), 20, 0, u64::MAX)
 }
 
 /// Prints the message where the words aren't of the form.
-fn tell_drill_usage<K: Sink>(out: &mut K)
-    ensures { IsTold (K.seen out.old) (K.seen out.new) drill_usage_text }
+fn print_drill_usage<K: Sink>(out: &mut K)
+    ensures { IsPrinted (K.seen out.old) (K.seen out.new) drill_usage_text }
 {
-    tell(out, &[b"fault: usage: drill NUMBER\n".as_slice()]);
+    print_message(out, &[b"fault: usage: drill NUMBER\n".as_slice()]);
 }
 
 /// Prints the message where memory is wanting.
-fn tell_memory<K: Sink>(out: &mut K)
-    ensures { IsTold (K.seen out.old) (K.seen out.new) memory_text }
+fn print_memory<K: Sink>(out: &mut K)
+    ensures { IsPrinted (K.seen out.old) (K.seen out.new) memory_text }
 {
-    tell(out, &[b"fault: memory\n".as_slice()]);
+    print_message(out, &[b"fault: memory\n".as_slice()]);
 }
 
 /// The text of the drill of a number.

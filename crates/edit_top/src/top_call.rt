@@ -14,12 +14,12 @@ ghost use Rattle.sponge_schematic.specs.Read.{loaded_of, IsWritable};
 ghost use Rattle.run_terms.specs.Limits.{IsScriptWithin};
 
 use crate::loading::{load_scripts, load_world};
+use crate::message::{print_fault, print_usage};
 use crate::outputs::{Output, save_all};
 use crate::planning::plan;
 use crate::run_text::run_text;
 use crate::running::run_scripts;
 use crate::status::Status;
-use crate::telling::{tell_fault, tell_usage};
 use crate::words::{Names, RunWords, Settings, asked_by};
 use edit_terms::{Case, Grid, Items, Outcome, Script};
 use memory::Memory;
@@ -62,12 +62,12 @@ fn run_words<F: Shelf, K: Sink>(
     ensures ending { Ends (map string_bytes words.now) (F.seen shelf.old) (F.seen shelf.new) (K.seen out.old) (K.seen out.new) result }
 {
     let Some(asked) = asked_by(words) else {
-        tell_usage(out);
+        print_usage(out);
         return Status::Usage;
     };
     match prepare(alloc, &asked, shelf) {
         Err(status) => {
-            tell_fault(out, &asked.names, &status);
+            print_fault(out, &asked.names, &status);
             status
         }
         Ok(prepared) => finish(&asked.names, prepared, shelf, out),
@@ -85,7 +85,7 @@ fn finish<F: Shelf, K: Sink>(
 {
     let Prepared { outputs, text } = prepared;
     if let Err(_failed) = save_all(shelf, outputs) {
-        tell_fault(out, names, &Status::SaveFault);
+        print_fault(out, names, &Status::SaveFault);
         return Status::SaveFault;
     }
     match out.put(&text) {

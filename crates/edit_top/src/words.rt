@@ -1,10 +1,11 @@
 //! The words that the program was called with.
 
-ghost use Rattle.std.specs.Prelude.{◌≡◌, ◌≤◌, true, [], length, get_or, map, string_bytes, option_map, if◌then◌else◌, Some, None, IfSome};
-ghost use Rattle.std.specs.Char.{is_ascii_digit};
-ghost use Rattle.std.specs.List.{list_all};
-ghost use Rattle.edit_top.specs.Words.{asked_by, asked_view, IsAskedWithin, asked_with, names_view, is_digits, is_between, number_of, seed_of, workers_of, depth_of};
+ghost use Rattle.std.specs.Prelude.{◌≡◌, true, [], length, get_or, map, string_bytes, option_map, IfSome};
+ghost use Rattle.run_terms.specs.Limits.{is_one_of};
+ghost use Rattle.edit_top.specs.Words.{asked_by, asked_view, IsAskedWithin, asked_with, names_view, seed_of, workers_of, depth_of};
 ghost use Rattle.edit_top.specs.Status.{file_name};
+
+use term_text::natural_between;
 
 /// What the words of a run ask for.
 #[derive(Clone, Copy, Debug)]
@@ -79,13 +80,13 @@ pub(crate) fn asked_by(words: &[String]) -> Option<RunWords<'_>>
 
 /// These files, and the numbers of the three words.
 fn asked_with<'a>(names: Names<'a>, seed: &str, workers: &str, depth: &str) -> Option<RunWords<'a>>
-    requires { is_between 1 64 (length names.scripts.now) ≡ true }
+    requires { is_one_of 1 64 (length names.scripts.now) ≡ true }
     ensures words { option_map asked_view result ≡ asked_with (names_view names.entry) (seed_of seed.now) (workers_of workers.now) (depth_of depth.now) }
     ensures within { IfSome result (λ asked. IsAskedWithin (asked_view asked)) }
 {
-    let seed = number_of(seed, 20, 0, u64::MAX)?;
-    let workers = number_of(workers, 2, 1, 64)?;
-    let depth = number_of(depth, 4, 1, 1_000)?;
+    let seed = natural_between(seed.as_bytes(), 20, 0, u64::MAX)?;
+    let workers = natural_between(workers.as_bytes(), 2, 1, 64)?;
+    let depth = natural_between(depth.as_bytes(), 4, 1, 1_000)?;
     Some(RunWords {
         names,
         settings: Settings {
@@ -94,43 +95,4 @@ fn asked_with<'a>(names: Names<'a>, seed: &str, workers: &str, depth: &str) -> O
             depth: depth as u32,
         },
     })
-}
-
-/// The number of a word of 1 to `most` digits, if it is one from `least` to `greatest`.
-pub(crate) fn number_of(word: &str, most: usize, least: u64, greatest: u64) -> Option<u64>
-    ensures number { result ≡ number_of most least greatest word.now }
-    ensures few { IfSome result (λ n. n ≤ greatest) }
-    ensures within { IfSome result (λ n. is_between least greatest n ≡ true) }
-{
-    if !is_digits(word.as_bytes(), most) {
-        return None;
-    }
-    match word.parse::<u64>() {
-        Err(_too_large) => None,
-        Ok(value) => if_between(value, least, greatest),
-    }
-}
-
-fn if_between(value: u64, least: u64, greatest: u64) -> Option<u64>
-    ensures value { result ≡ (if is_between least greatest value then Some value else None) }
-    ensures few { IfSome result (λ n. n ≤ greatest) }
-    ensures within { IfSome result (λ n. is_between least greatest n ≡ true) }
-{
-    if least <= value && value <= greatest {
-        Some(value)
-    } else {
-        None
-    }
-}
-
-fn is_digits(word: &[u8], most: usize) -> bool
-    ensures { result ≡ is_digits most word.now }
-{
-    !word.is_empty() && word.len() <= most && are_digits(word)
-}
-
-fn are_digits(word: &[u8]) -> bool
-    ensures { result ≡ list_all is_ascii_digit word.now }
-{
-    word.iter().all(|byte| byte.is_ascii_digit())
 }

@@ -1,5 +1,5 @@
 -- Which leaf of a mask a text stands for, or its first fault.
-use Rattle.std.specs.Prelude.{ℕ, Bool, ◌||◌, ◌==◌, if◌then◌else◌, List, [], ◌∷◌, map, Some, None, Result, Ok, Err, codes, bytes_eq}
+use Rattle.std.specs.Prelude.{ℕ, Bool, ◌||◌, ◌==◌, if◌then◌else◌, List, [], ◌∷◌, map, Option, Some, None, Result, Ok, Err, codes, bytes_eq}
 use Rattle.edit_terms.specs.declared.mask.Leaf.{Leaf}
 use Rattle.edit_terms.specs.declared.mask.Leaf.TheVariants.{Noise, Existing, InSelection, Has, OneOf}
 use Rattle.edit_terms.specs.StateText.{comma, opening, state_reading}
@@ -8,8 +8,13 @@ use Rattle.block_state.specs.declared.term_fault.TermFault.{TermFault}
 use Rattle.block_state.specs.declared.term_fault.TermFault.TheVariants.{Empty, Unknown, Number}
 use Rattle.term_text.specs.Pieces.{Piece, pieces_at}
 use Rattle.term_text.specs.Verdict.{verdict_map, all_or_first}
-use Rattle.term_text.specs.Part.{at_place, properties_reading}
-use Rattle.mask_syntax.specs.Chance.{chance_of}
+use Rattle.block_state.specs.Read.{properties_reading}
+use Rattle.term_text.specs.Part.{at_place}
+use Rattle.term_text.specs.Digits.{natural_between}
+
+-- the number of a noise leaf: one to three digits that stand for 0 to 100
+abbrev pub chance_of : List ℕ → Option ℕ
+chance_of digits = natural_between 3 0 100 digits
 
 -- a share of noise: the number behind the percent sign
 abbrev pub noise_reading : ℕ → List ℕ → Result Leaf TermFault

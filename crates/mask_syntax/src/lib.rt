@@ -5,12 +5,9 @@
 //! left and its place.
 #![tactic(auto)]
 
-mod chance;
 mod leaf;
 mod mask;
-mod properties;
 mod signs;
-mod state;
 mod term;
 mod union;
 

@@ -2,7 +2,8 @@
 ghost use Rattle.std.specs.Prelude.{◌≡◌, ◌≤◌, ◌+◌, true, Ok, length, IfOk, IfErr};
 ghost use Rattle.edit_terms.specs.Mask.{noise_leaves};
 ghost use Rattle.run_terms.specs.Limits.{is_leaf_within, is_mask_within};
-ghost use Rattle.mask_syntax.specs.Read.{Gives, Tells};
+ghost use Rattle.block_state.specs.Read.{Gives};
+ghost use Rattle.mask_syntax.specs.Read.{IsMaskFault};
 ghost use Rattle.term_text.specs.Cursor.{piece_now};
 ghost use Rattle.mask_syntax.specs.Term.{leaf_piece, noise_of};
 ghost use Rattle.mask_syntax.specs.Mask.{judged, terms_reading, term_pieces, mask_of_text};
@@ -32,7 +33,7 @@ const MOST_NOISE: u32 = 4;
 pub fn read_mask(alloc: Global, text: &[u8]) -> Result<Mask, TermFault>
     requires { length text.now ≤ 1048576 }
     ensures read { IfOk result (λ mask. mask_of_text text.now ≡ Ok mask) }
-    ensures fault { IfErr result (λ fault. Tells (mask_of_text text.now) fault) }
+    ensures fault { IfErr result (λ fault. IsMaskFault (mask_of_text text.now) fault) }
     ensures within { IfOk result (λ mask. is_mask_within mask ≡ true) }
 {
     let terms = read_terms(alloc, text)?;
@@ -48,7 +49,7 @@ pub fn read_mask(alloc: Global, text: &[u8]) -> Result<Mask, TermFault>
 #[tactic(auto, using(term_text::proofs::Joined::joined_none, term_text::proofs::Joined::joined_more, term_text::proofs::Joined::joined_all, crate::proofs::Within::none_within, crate::proofs::Within::one_within, crate::proofs::Within::mask_within))]
 fn read_terms(alloc: Global, text: &[u8]) -> Result<Vec<Term>, TermFault>
     requires { length text.now ≤ 1048576 }
-    ensures read { Gives (λ terms. terms.items) (terms_reading (term_pieces text.now)) result }
+    ensures read { Gives IsMaskFault (λ terms. terms.items) (terms_reading (term_pieces text.now)) result }
     ensures within { IfOk result (λ terms. is_mask_within (record { terms = terms.items }) ≡ true) }
 {
     let mut terms = Vec::new(alloc);
@@ -71,7 +72,7 @@ fn read_terms(alloc: Global, text: &[u8]) -> Result<Vec<Term>, TermFault>
 fn read_behind(alloc: Global, noise: u32, piece: &Piece) -> Result<Term, TermFault>
     requires few { noise ≤ 4 }
     requires piece { piece.now.at + length piece.now.bytes.now ≤ 1048576 }
-    ensures read { Gives (λ term. term) (judged (record { before = noise; piece = piece_now piece.now })) result }
+    ensures read { Gives IsMaskFault (λ term. term) (judged (record { before = noise; piece = piece_now piece.now })) result }
     ensures within { IfOk result (λ term. is_leaf_within term.leaf ≡ true) }
     ensures noise { IfOk result (λ term. noise_leaves term.leaf ≡ noise_of (piece_now piece.now)) }
     ensures few { IfOk result (λ term. noise + noise_of (piece_now piece.now) ≤ 4) }

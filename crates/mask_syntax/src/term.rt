@@ -2,7 +2,8 @@
 ghost use Rattle.std.specs.Prelude.{◌≡◌, ◌≤◌, ◌+◌, true, length, IfOk};
 ghost use Rattle.edit_terms.specs.Mask.{noise_leaves};
 ghost use Rattle.run_terms.specs.Limits.{is_leaf_within};
-ghost use Rattle.mask_syntax.specs.Read.{Gives};
+ghost use Rattle.block_state.specs.Read.{Gives};
+ghost use Rattle.mask_syntax.specs.Read.{IsMaskFault};
 ghost use Rattle.term_text.specs.Cursor.{piece_now};
 ghost use Rattle.mask_syntax.specs.Term.{begins_noise, leaf_piece, term_reading, noise_of};
 
@@ -16,7 +17,7 @@ use term_text::Piece;
 /// The term of a piece: its signs and its leaf.
 pub(crate) fn read_term(alloc: Global, piece: &Piece) -> Result<Term, TermFault>
     requires { piece.now.at + length piece.now.bytes.now ≤ 1048576 }
-    ensures read { Gives (λ term. term) (term_reading (piece_now piece.now)) result }
+    ensures read { Gives IsMaskFault (λ term. term) (term_reading (piece_now piece.now)) result }
     ensures within { IfOk result (λ term. is_leaf_within term.leaf ≡ true) }
     ensures noise { IfOk result (λ term. noise_leaves term.leaf ≡ noise_of (piece_now piece.now)) }
 {

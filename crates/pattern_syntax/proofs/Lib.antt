@@ -1,4 +1,1 @@
-pub mod Digits
-pub mod States
 pub mod Within
-pub mod Entries

@@ -1,4 +1,3 @@
 pub mod Read
-pub mod Weight
 pub mod Value
 pub mod Pattern

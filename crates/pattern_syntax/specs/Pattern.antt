@@ -8,8 +8,12 @@ use Rattle.block_state.specs.declared.term_fault.TermFault.{TermFault}
 use Rattle.block_state.specs.declared.term_fault.TermFault.TheVariants.{Weight, TooManyEntries}
 use Rattle.term_text.specs.Pieces.{Piece, pieces_at, place_from}
 use Rattle.term_text.specs.Verdict.{verdict_map, all_or_first}
-use Rattle.pattern_syntax.specs.Weight.{weight_of}
+use Rattle.term_text.specs.Digits.{natural_between}
 use Rattle.pattern_syntax.specs.Value.{value_reading}
+
+-- a weight: one to seven digits that stand for 1 to 1,000,000
+abbrev pub weight_of : List ℕ → Option ℕ
+weight_of digits = natural_between 7 1 1000000 digits
 
 -- the byte between a weight and its value: a percent sign
 abbrev pub percent : ℕ

@@ -4,11 +4,11 @@ use Rattle.std.specs.List.{list_any}
 use Rattle.edit_terms.specs.declared.pattern.Value.{Value}
 use Rattle.edit_terms.specs.declared.pattern.Value.TheVariants.{Fixed, Rename, Put, RenamePut, Clipboard}
 use Rattle.edit_terms.specs.StateText.{opening, state_reading}
-use Rattle.block_state.specs.Read.{name_reading}
+use Rattle.block_state.specs.Read.{name_reading, properties_reading}
 use Rattle.block_state.specs.declared.term_fault.TermFault.{TermFault}
 use Rattle.block_state.specs.declared.term_fault.TermFault.TheVariants.{Empty, Unknown}
 use Rattle.term_text.specs.Verdict.{verdict_map}
-use Rattle.term_text.specs.Part.{at_place, properties_reading}
+use Rattle.term_text.specs.Part.{at_place}
 
 abbrev pub has_opening : List ℕ → Bool
 has_opening text = list_any (λ b. b == opening) text

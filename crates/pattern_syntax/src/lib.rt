@@ -6,12 +6,8 @@
 #![tactic(auto)]
 
 mod entry;
-mod naming;
 mod pattern;
-mod properties;
-mod state;
 mod value;
-mod weight;
 
 pub use block_state::TermFault;
 pub use memory::Memory;

@@ -2,7 +2,8 @@
 ghost use Rattle.std.specs.Prelude.{◌≡◌, ◌≤◌, ◌<◌, ◌+◌, true, [], ◌∷◌, ◌++◌, Ok, OnOk, length, IfOk, IfErr};
 ghost use Rattle.block_state.specs.declared.term_fault.TermFault.TheVariants.{Memory};
 ghost use Rattle.run_terms.specs.Limits.{is_one_of, is_pattern_within};
-ghost use Rattle.pattern_syntax.specs.Read.{Gives, Tells};
+ghost use Rattle.block_state.specs.Read.{Gives};
+ghost use Rattle.pattern_syntax.specs.Read.{IsPatternFault};
 ghost use Rattle.term_text.specs.Cursor.{piece_now};
 ghost use Rattle.pattern_syntax.specs.Pattern.{judged, entries_reading, pattern_of_text};
 ghost use Rattle.term_text.specs.Pieces.{pieces_at};
@@ -32,7 +33,7 @@ const MOST_ENTRIES: u32 = 32;
 pub fn read_pattern(alloc: Global, text: &[u8]) -> Result<Pattern, TermFault>
     requires { length text.now ≤ 1048576 }
     ensures read { IfOk result (λ pattern. pattern_of_text text.now ≡ Ok pattern) }
-    ensures fault { IfErr result (λ fault. Tells (pattern_of_text text.now) fault) }
+    ensures fault { IfErr result (λ fault. IsPatternFault (pattern_of_text text.now) fault) }
     ensures within { IfOk result (λ pattern. is_pattern_within pattern ≡ true) }
 {
     let entries = read_entries(alloc, text)?;
@@ -42,10 +43,10 @@ pub fn read_pattern(alloc: Global, text: &[u8]) -> Result<Pattern, TermFault>
 }
 
 /// The entries in their order.
-#[tactic(auto, using(term_text::proofs::Joined::joined_none, crate::proofs::Entries::joined_next, term_text::proofs::Joined::joined_all, crate::proofs::Within::none_within, crate::proofs::Within::one_within, crate::proofs::Within::pattern_within))]
+#[tactic(auto, using(term_text::proofs::Joined::joined_none, term_text::proofs::Joined::joined_all, crate::proofs::Within::none_within, crate::proofs::Within::one_within, crate::proofs::Within::pattern_within))]
 fn read_entries(alloc: Global, text: &[u8]) -> Result<Vec<Entry>, TermFault>
     requires { length text.now ≤ 1048576 }
-    ensures read { Gives (λ entries. entries.items) (entries_reading (pieces_at comma 0 text.now)) result }
+    ensures read { Gives IsPatternFault (λ entries. entries.items) (entries_reading (pieces_at comma 0 text.now)) result }
     ensures within { IfOk result (λ entries. is_pattern_within (record { entries = entries.items }) ≡ true) }
 {
     let mut entries = Vec::new(alloc);
@@ -73,7 +74,7 @@ fn put_last(entries: &mut Vec<Entry>, entry: Entry) -> Result<(), TermFault>
 /// The entry of a piece behind so many others.
 fn read_behind(alloc: Global, before: u32, piece: &Piece) -> Result<Entry, TermFault>
     requires { piece.now.at + length piece.now.bytes.now ≤ 1048576 }
-    ensures read { Gives (λ entry. entry) (judged (before, piece_now piece.now)) result }
+    ensures read { Gives IsPatternFault (λ entry. entry) (judged (before, piece_now piece.now)) result }
     ensures within { IfOk result (λ entry. is_one_of 1 1000000 entry.weight ≡ true) }
     ensures few { IfOk result (λ _. before < 32) }
 {

@@ -28,7 +28,7 @@ struct Entry {
 }
 
 /// The state that names the entry of that place.
-#[tactic(auto, using(crate::proofs::Faults::state_told))]
+#[tactic(auto, using(crate::proofs::Faults::state_refused))]
 fn entry_state(alloc: Global, index: u32, text: &[u8]) -> Result<BlockState, WorldFault>
     ensures { Gives (λ x. x) result (entry_state index (state_reading text.now)) }
 {

@@ -4,7 +4,7 @@ ghost use Rattle.std.specs.Prelude.{◌≡◌, ◌∷◌, ◌<◌, ◌^◌, leng
 ghost use Rattle.std.specs.Option.{ForSome};
 ghost use Rattle.edit_terms.specs.Area.{volume};
 ghost use Rattle.edit_terms.specs.Grid.{is_numbered};
-ghost use Rattle.block_entities.specs.Gathering.{is_entry_list, IsEntryList};
+ghost use Rattle.block_entities.specs.Gathering.{IsEntryList};
 ghost use Rattle.sponge_schematic.specs.Answers.{Gives};
 ghost use Rattle.sponge_schematic.specs.BlockData.{cells_of};
 ghost use Rattle.sponge_schematic.specs.Palette.{palette_of};
@@ -19,6 +19,7 @@ use crate::fields::{bytes_of, field, required, row_of};
 use crate::header::{area, data_version};
 use crate::palette::{Entries, read_entries};
 use crate::places::Places;
+use block_entities::is_entry_list;
 use edit_terms::{BlockState, WorldBox};
 use nbt_tags::{Named, Tag};
 use std::alloc::Global;
@@ -57,16 +58,6 @@ fn cells(alloc: Global, places: &Places, volume: u32, row: &[Named]) -> Result<V
     let tag = required(row, Field::BlockData)?;
     let bytes = bytes_of(Field::BlockData, tag)?;
     cells_in(alloc, places, volume, bytes)
-}
-
-/// True exactly for a list that is empty or of compounds.
-fn is_entry_list(tag: &Tag) -> bool
-    ensures { result ≡ is_entry_list tag.now }
-{
-    match tag {
-        Tag::List { element, items } => items.is_empty() || *element == 10,
-        _ => false,
-    }
 }
 
 /// Looks whether the list BlockEntities, where it is there, is empty or of compounds.

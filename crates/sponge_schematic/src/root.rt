@@ -22,7 +22,7 @@ fn is_compressed(bytes: &[u8]) -> bool
 }
 
 /// The named tag that the bytes are.
-#[tactic(auto, using(crate::proofs::Faults::nbt_told))]
+#[tactic(auto, using(crate::proofs::Faults::nbt_refused))]
 fn root(alloc: Global, bytes: &[u8]) -> Result<Named, WorldFault>
     requires { length bytes.now < 2 ^ 32 }
     ensures gives { Gives (λ x. x) result (from_nbt (decoded bytes.now)) }

@@ -3,9 +3,10 @@
 use crate::bytes::put;
 use crate::faults::put_state_fault;
 use crate::properties::put_properties;
+use block_state::read_properties;
 use case_lines::push_number;
 use std::alloc::Global;
-use term_text::{Piece, Pieces, first_outside, read_properties};
+use term_text::{Piece, Pieces, first_outside};
 
 /// `pieces SEPARATOR AT TEXT`: the pieces of a text that begins at this place of the whole, each with its place, and a
 /// `;` behind it.

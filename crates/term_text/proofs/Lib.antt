@@ -1,3 +1,4 @@
 pub mod Cuts
 pub mod Joined
+pub mod Numerals
 pub mod Parts

@@ -1,17 +1,16 @@
--- Properties as a part of a term.
-use Rattle.std.proofs.Common.{◌≡◌, ℕ, List, ◌++◌, Ok, Err, refl}
-use Rattle.std.specs.Prelude.{Result, codes}
-use Rattle.edit_terms.specs.StateText.{State, TextFault, opening, cut_at, listed_in, state_listed, state_reading}
-use Rattle.term_text.specs.Part.{properties_listed, properties_reading}
+-- What the error of a state, a name or properties says of them as a part of a term.
+use Rattle.std.proofs.Common.{ℕ, ap}
+use Rattle.std.specs.Prelude.{Result}
+use Rattle.edit_terms.specs.StateText.{TextFault}
+use Rattle.block_state.specs.declared.fault.StateFault.{StateFault}
+use Rattle.block_state.specs.declared.fault.StateFault.TheVariants as faults
+use Rattle.block_state.specs.Read.{IsFault}
+use Rattle.term_text.specs.Part.{IsPartFault, at_place, error_at}
 
--- the properties of a verdict on a state
-abbrev pub its_properties : Result State TextFault → Result (List (List ℕ × List ℕ)) TextFault
-its_properties (Ok s) = Ok s.properties
-its_properties (Err fault) = Err fault
-
--- properties are read as those of a state of any name
-pub properties_of_state : (rest : List ℕ) → properties_reading rest ≡ its_properties (state_reading (codes "a[" ++ rest))
-properties_of_state rest = elim (listed_in (cut_at opening rest)) as (λ r. properties_listed r ≡ its_properties (state_listed (codes "minecraft:a") r)) [
-  | Ok listed ↦ refl
-  | Err fault ↦ refl
-]
+-- an error of a part is one of the term, at the part's place
+pub fault_at : {A : Type 0} (at : ℕ) (reading : Result A TextFault) (fault : StateFault) → IsFault reading fault → IsPartFault (at_place at reading) (error_at at fault)
+fault_at at reading faults.BadName h = ap (at_place at) h
+fault_at at reading faults.BadProperty h = ap (at_place at) h
+fault_at at reading faults.RepeatedKey h = ap (at_place at) h
+fault_at at reading faults.TooManyProperties h = ap (at_place at) h
+fault_at at reading faults.Memory h = tt

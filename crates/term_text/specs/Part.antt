@@ -1,6 +1,6 @@
--- What the text of a state or of properties says as a part of a term.
-use Rattle.std.specs.Prelude.{ℕ, List, Result, Ok, Err}
-use Rattle.edit_terms.specs.StateText.{TextFault, opening, cut_at, listed_in, sorted_properties}
+-- What the text of a state, a name or properties says as a part of a term.
+use Rattle.std.specs.Prelude.{◌≡◌, ℕ, Result, Ok, Err}
+use Rattle.edit_terms.specs.StateText.{TextFault}
 use Rattle.block_state.specs.Read.{fault_of}
 use Rattle.block_state.specs.declared.term_fault.TermFault.{TermFault}
 use Rattle.block_state.specs.declared.term_fault.TermFault.TheVariants.{State, Memory}
@@ -17,11 +17,10 @@ abbrev pub error_at : ℕ → StateFault → TermFault
 error_at at faults.Memory = Memory
 error_at at fault = State at fault
 
--- listed properties by rising key
-abbrev pub properties_listed : Result (List (List ℕ × List ℕ)) TextFault → Result (List (List ℕ × List ℕ)) TextFault
-properties_listed (Ok listed) = Ok (sorted_properties listed)
-properties_listed (Err fault) = Err fault
-
--- the properties of what stands behind the opening bracket
-abbrev pub properties_reading : List ℕ → Result (List (List ℕ × List ℕ)) TextFault
-properties_reading rest = properties_listed (listed_in (cut_at opening rest))
+-- What an error says of a part that reads as this: it reads as that fault of a state, which hides no want of memory.
+-- `Memory` says nothing of the text.
+abbrev pub IsPartFault : {A : Type 0} → Result A TermFault → TermFault → Type 0
+IsPartFault reading (State at faults.Memory) = ⊥
+IsPartFault reading (State at fault) = reading ≡ Err (State at fault)
+IsPartFault reading Memory = Unit {0}
+IsPartFault reading _ = ⊥

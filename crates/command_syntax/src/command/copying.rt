@@ -6,7 +6,8 @@ ghost use Rattle.command_syntax.specs.Arguments.{if_any};
 ghost use Rattle.command_syntax.specs.Choice.{skip_air_of};
 ghost use Rattle.command_syntax.specs.Words.{AreShort};
 ghost use Rattle.command_syntax.specs.Command.{command_with};
-ghost use Rattle.command_syntax.specs.Read.{Gives};
+ghost use Rattle.block_state.specs.Read.{Gives};
+ghost use Rattle.command_syntax.specs.Read.{IsStop};
 
 use crate::arguments::{optional_word, two_words};
 use crate::choice::{direction_of, skip_air_of};
@@ -18,7 +19,7 @@ use edit_terms::{Command, Name};
 /// `//stack`: the selection so many times in a direction.
 pub(crate) fn stack(words: &[Name]) -> Result<Command, Stop>
     requires { AreShort words.now }
-    ensures read { Gives (λ command. command) (command_with verbs.Stack words.now) result }
+    ensures read { Gives IsStop (λ command. command) (command_with verbs.Stack words.now) result }
     ensures within { IfOk result (λ command. is_command_within command ≡ true) }
 {
     let (count, to) = two_words(words)?;
@@ -30,7 +31,7 @@ pub(crate) fn stack(words: &[Name]) -> Result<Command, Stop>
 /// `//move`: the selection so many blocks in a direction.
 pub(crate) fn move_selection(words: &[Name]) -> Result<Command, Stop>
     requires { AreShort words.now }
-    ensures read { Gives (λ command. command) (command_with verbs.Move words.now) result }
+    ensures read { Gives IsStop (λ command. command) (command_with verbs.Move words.now) result }
     ensures within { IfOk result (λ command. is_command_within command ≡ true) }
 {
     let (count, to) = two_words(words)?;
@@ -42,7 +43,7 @@ pub(crate) fn move_selection(words: &[Name]) -> Result<Command, Stop>
 /// `//copy`: the selection to the clipboard.
 pub(crate) fn copy(words: &[Name]) -> Result<Command, Stop>
     requires { AreShort words.now }
-    ensures read { Gives (λ command. command) (command_with verbs.Copy words.now) result }
+    ensures read { Gives IsStop (λ command. command) (command_with verbs.Copy words.now) result }
     ensures within { IfOk result (λ command. is_command_within command ≡ true) }
 {
     match words {
@@ -54,7 +55,7 @@ pub(crate) fn copy(words: &[Name]) -> Result<Command, Stop>
 /// `//cut`: the selection to the clipboard, and air in its place.
 pub(crate) fn cut(words: &[Name]) -> Result<Command, Stop>
     requires { AreShort words.now }
-    ensures read { Gives (λ command. command) (command_with verbs.Cut words.now) result }
+    ensures read { Gives IsStop (λ command. command) (command_with verbs.Cut words.now) result }
     ensures within { IfOk result (λ command. is_command_within command ≡ true) }
 {
     match words {
@@ -66,7 +67,7 @@ pub(crate) fn cut(words: &[Name]) -> Result<Command, Stop>
 /// `//paste`: the clipboard, with `-a` without its air.
 pub(crate) fn paste(words: &[Name]) -> Result<Command, Stop>
     requires { AreShort words.now }
-    ensures read { Gives (λ command. command) (command_with verbs.Paste words.now) result }
+    ensures read { Gives IsStop (λ command. command) (command_with verbs.Paste words.now) result }
     ensures within { IfOk result (λ command. is_command_within command ≡ true) }
 {
     let skip_air = skip_air_if_any(optional_word(words)?)?;
@@ -74,7 +75,7 @@ pub(crate) fn paste(words: &[Name]) -> Result<Command, Stop>
 }
 
 fn skip_air_if_any(word: Option<&[u8]>) -> Result<bool, Stop>
-    ensures { Gives (λ skip_air. skip_air) (if_any false skip_air_of (option_map (λ word. word.now) word.entry)) result }
+    ensures { Gives IsStop (λ skip_air. skip_air) (if_any false skip_air_of (option_map (λ word. word.now) word.entry)) result }
 {
     match word {
         Some(word) => skip_air_of(word),

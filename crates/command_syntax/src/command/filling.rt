@@ -6,7 +6,8 @@ ghost use Rattle.command_syntax.specs.Arguments.{if_any};
 ghost use Rattle.command_syntax.specs.Term.{existing, mask_of};
 ghost use Rattle.command_syntax.specs.Words.{AreShort};
 ghost use Rattle.command_syntax.specs.Command.{command_with};
-ghost use Rattle.command_syntax.specs.Read.{Gives};
+ghost use Rattle.block_state.specs.Read.{Gives};
+ghost use Rattle.command_syntax.specs.Read.{IsStop};
 
 use crate::arguments::{one_word, optional_and_one};
 use crate::stop::Stop;
@@ -17,7 +18,7 @@ use std::alloc::Global;
 /// `//set`: the whole selection.
 pub(crate) fn set(alloc: Global, words: &[Name]) -> Result<Command, Stop>
     requires { AreShort words.now }
-    ensures read { Gives (λ command. command) (command_with verbs.Set words.now) result }
+    ensures read { Gives IsStop (λ command. command) (command_with verbs.Set words.now) result }
     ensures within { IfOk result (λ command. is_command_within command ≡ true) }
 {
     let pattern = pattern_of(alloc, one_word(words)?)?;
@@ -27,7 +28,7 @@ pub(crate) fn set(alloc: Global, words: &[Name]) -> Result<Command, Stop>
 /// `//walls`: the selection's walls.
 pub(crate) fn walls(alloc: Global, words: &[Name]) -> Result<Command, Stop>
     requires { AreShort words.now }
-    ensures read { Gives (λ command. command) (command_with verbs.Walls words.now) result }
+    ensures read { Gives IsStop (λ command. command) (command_with verbs.Walls words.now) result }
     ensures within { IfOk result (λ command. is_command_within command ≡ true) }
 {
     let pattern = pattern_of(alloc, one_word(words)?)?;
@@ -37,7 +38,7 @@ pub(crate) fn walls(alloc: Global, words: &[Name]) -> Result<Command, Stop>
 /// `//faces`: the selection's faces.
 pub(crate) fn faces(alloc: Global, words: &[Name]) -> Result<Command, Stop>
     requires { AreShort words.now }
-    ensures read { Gives (λ command. command) (command_with verbs.Faces words.now) result }
+    ensures read { Gives IsStop (λ command. command) (command_with verbs.Faces words.now) result }
     ensures within { IfOk result (λ command. is_command_within command ≡ true) }
 {
     let pattern = pattern_of(alloc, one_word(words)?)?;
@@ -47,7 +48,7 @@ pub(crate) fn faces(alloc: Global, words: &[Name]) -> Result<Command, Stop>
 /// `//replace`: the selection where a mask holds, or where it isn't air.
 pub(crate) fn replace(alloc: Global, words: &[Name]) -> Result<Command, Stop>
     requires { AreShort words.now }
-    ensures read { Gives (λ command. command) (command_with verbs.Replace words.now) result }
+    ensures read { Gives IsStop (λ command. command) (command_with verbs.Replace words.now) result }
     ensures within { IfOk result (λ command. is_command_within command ≡ true) }
 {
     let (mask, pattern) = optional_and_one(words)?;
@@ -58,7 +59,7 @@ pub(crate) fn replace(alloc: Global, words: &[Name]) -> Result<Command, Stop>
 
 fn mask_or_existing(alloc: Global, word: Option<&[u8]>) -> Result<Mask, Stop>
     requires { IfSome word (λ word. length word.now ≤ 1048576) }
-    ensures read { Gives (λ mask. mask) (if_any existing mask_of (option_map (λ word. word.now) word.entry)) result }
+    ensures read { Gives IsStop (λ mask. mask) (if_any existing mask_of (option_map (λ word. word.now) word.entry)) result }
     ensures within { IfOk result (λ mask. is_mask_within mask ≡ true) }
 {
     match word {

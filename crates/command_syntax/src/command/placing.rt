@@ -4,7 +4,8 @@ ghost use Rattle.run_terms.specs.Limits.{is_command_within};
 ghost use Rattle.command_syntax.specs.declared.verb.Verb.TheVariants as verbs;
 ghost use Rattle.command_syntax.specs.Words.{AreShort};
 ghost use Rattle.command_syntax.specs.Command.{command_with};
-ghost use Rattle.command_syntax.specs.Read.{Gives};
+ghost use Rattle.block_state.specs.Read.{Gives};
+ghost use Rattle.command_syntax.specs.Read.{IsStop};
 
 use crate::arguments::{one_word, two_words};
 use crate::choice::kind_of;
@@ -17,7 +18,7 @@ use std::alloc::Global;
 /// `//pos1`: the selection's first position.
 pub(crate) fn pos1(words: &[Name]) -> Result<Command, Stop>
     requires { AreShort words.now }
-    ensures read { Gives (λ command. command) (command_with verbs.Pos1 words.now) result }
+    ensures read { Gives IsStop (λ command. command) (command_with verbs.Pos1 words.now) result }
     ensures within { IfOk result (λ command. is_command_within command ≡ true) }
 {
     let at = position_of(one_word(words)?)?;
@@ -27,7 +28,7 @@ pub(crate) fn pos1(words: &[Name]) -> Result<Command, Stop>
 /// `//pos2`: the selection's second position.
 pub(crate) fn pos2(words: &[Name]) -> Result<Command, Stop>
     requires { AreShort words.now }
-    ensures read { Gives (λ command. command) (command_with verbs.Pos2 words.now) result }
+    ensures read { Gives IsStop (λ command. command) (command_with verbs.Pos2 words.now) result }
     ensures within { IfOk result (λ command. is_command_within command ≡ true) }
 {
     let at = position_of(one_word(words)?)?;
@@ -37,7 +38,7 @@ pub(crate) fn pos2(words: &[Name]) -> Result<Command, Stop>
 /// `at`: the place.
 pub(crate) fn place(words: &[Name]) -> Result<Command, Stop>
     requires { AreShort words.now }
-    ensures read { Gives (λ command. command) (command_with verbs.Place words.now) result }
+    ensures read { Gives IsStop (λ command. command) (command_with verbs.Place words.now) result }
     ensures within { IfOk result (λ command. is_command_within command ≡ true) }
 {
     let at = position_of(one_word(words)?)?;
@@ -47,7 +48,7 @@ pub(crate) fn place(words: &[Name]) -> Result<Command, Stop>
 /// `//sel`: the selection's shape.
 pub(crate) fn sel(words: &[Name]) -> Result<Command, Stop>
     requires { AreShort words.now }
-    ensures read { Gives (λ command. command) (command_with verbs.Sel words.now) result }
+    ensures read { Gives IsStop (λ command. command) (command_with verbs.Sel words.now) result }
     ensures within { IfOk result (λ command. is_command_within command ≡ true) }
 {
     let kind = kind_of(one_word(words)?)?;
@@ -57,7 +58,7 @@ pub(crate) fn sel(words: &[Name]) -> Result<Command, Stop>
 /// `block`: a state at a position.
 pub(crate) fn block(alloc: Global, words: &[Name]) -> Result<Command, Stop>
     requires { AreShort words.now }
-    ensures read { Gives (λ command. command) (command_with verbs.Block words.now) result }
+    ensures read { Gives IsStop (λ command. command) (command_with verbs.Block words.now) result }
     ensures within { IfOk result (λ command. is_command_within command ≡ true) }
 {
     let (at, state) = two_words(words)?;

@@ -6,7 +6,7 @@ use Rattle.edit_top.proofs.CheckEndings.{are_named, none_named, ends_printed, en
 use Rattle.edit_top.proofs.checking.check_words.Goals as goal
 
 pub returns-in_default : goal.returns-in_default
-returns-in_default g c = record { words_are = none_named (map string_bytes c.args.words.now) c.in_default.ensures; stays = refl; message = c.tell_check_usage.ensures }
+returns-in_default g c = record { words_are = none_named (map string_bytes c.args.words.now) c.in_default.ensures; stays = refl; message = c.print_check_usage.ensures }
 
 pub returns-in-Ok : goal.returns-in-Ok
 returns-in-Ok g c =
@@ -17,4 +17,4 @@ returns-in-Ok g c =
 pub returns-in-Err : goal.returns-in-Err
 returns-in-Err g c =
     ends_refused (map string_bytes c.args.words.now) (names_view c.in-Some.names) (are_named (map string_bytes c.args.words.now) (names_view c.in-Some.names) c.in-Some.ensures) (g.F.Shelf.seen c.args.shelf.now) (g.F.Shelf.seen c.file_text.new.shelf)
-    c.in-Err.ensures.stays (g.K.Sink.seen c.args.out.now) (g.K.Sink.seen c.tell_fault.new.out) c.in-Err.status c.in-Err.ensures.cause c.tell_fault.ensures
+    c.in-Err.ensures.stays (g.K.Sink.seen c.args.out.now) (g.K.Sink.seen c.print_fault.new.out) c.in-Err.status c.in-Err.ensures.cause c.print_fault.ensures

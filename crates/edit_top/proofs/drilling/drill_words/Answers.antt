@@ -5,7 +5,7 @@ use Rattle.edit_top.proofs.DrillEndings.{drill_printed}
 use Rattle.edit_top.proofs.drilling.drill_words.Goals as goal
 
 pub returns-in_default : goal.returns-in_default
-returns-in_default g c = record { words_are = sym c.in_default.ensures; message = c.tell_drill_usage.ensures }
+returns-in_default g c = record { words_are = sym c.in_default.ensures; message = c.print_drill_usage.ensures }
 
 pub returns-in-Ok : goal.returns-in-Ok
 returns-in-Ok g c =
@@ -14,4 +14,4 @@ returns-in-Ok g c =
     (subst (λ (t : List ℕ). Prints t (g.K.Sink.seen c.args.out.now) (g.K.Sink.seen c.print.new.out) c.print.result) c.deref.ensures.value c.print.ensures)
 
 pub returns-in-Err : goal.returns-in-Err
-returns-in-Err g c = record { number = c.in-Some.number; are = sym c.in-Some.ensures; message = c.tell_memory.ensures }
+returns-in-Err g c = record { number = c.in-Some.number; are = sym c.in-Some.ensures; message = c.print_memory.ensures }

@@ -12,6 +12,6 @@ returns-in-Ok g c = record {
 
 pub returns-in-Err : goal.returns-in-Err
 returns-in-Err g c = record {
-  ending = ends_stopped (map string_bytes c.args.words.now) (asked_view c.in-Some.asked) (g.F.Shelf.seen c.args.shelf.now) (g.F.Shelf.seen c.prepare.new.shelf) (g.K.Sink.seen c.args.out.now) (g.K.Sink.seen c.tell_fault.new.out)
-      c.in-Err.status (sym c.in-Some.ensures.words) c.in-Err.ensures.cause c.in-Err.ensures.stays c.tell_fault.ensures;
+  ending = ends_stopped (map string_bytes c.args.words.now) (asked_view c.in-Some.asked) (g.F.Shelf.seen c.args.shelf.now) (g.F.Shelf.seen c.prepare.new.shelf) (g.K.Sink.seen c.args.out.now) (g.K.Sink.seen c.print_fault.new.out)
+      c.in-Err.status (sym c.in-Some.ensures.words) c.in-Err.ensures.cause c.in-Err.ensures.stays c.print_fault.ensures;
 }

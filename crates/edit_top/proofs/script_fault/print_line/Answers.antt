@@ -1,0 +1,11 @@
+use Rattle.std.proofs.Common.{◌≡◌, ℕ, List, [], ◌∷◌, codes, decimal}
+use Rattle.edit_top.proofs.ScriptFaults.{pieces_printed}
+use Rattle.edit_top.proofs.script_fault.print_line.Goals as goal
+
+pub returns : goal.returns
+returns g c =
+    let put : List (List ℕ) = c.as_slice-3.result.now ∷ c.as_bytes.result.now ∷ c.as_slice-4.result.now ∷ c.args.words.now ∷ [] in
+    let pieces : List (List ℕ) = codes "line " ∷ decimal c.args.line ∷ codes ": " ∷ c.args.words.now ∷ [] in
+    let same : put ≡ pieces = cc in
+    pieces_printed (g.K.Sink.seen c.args.out.now) (g.K.Sink.seen c.print_message.new.out) c.args.name.now put pieces c.as_slice.result.now c.as_slice-2.result.now c.as_slice-5.result.now
+    c.as_slice.ensures c.as_slice-2.ensures c.as_slice-5.ensures same c.print_message.ensures

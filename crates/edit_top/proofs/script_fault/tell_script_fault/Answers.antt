@@ -1,7 +1,0 @@
-use Rattle.edit_top.proofs.script_fault.tell_script_fault.Goals as goal
-
-pub returns-in-BadPlayer : goal.returns-in-BadPlayer
-returns-in-BadPlayer g c = rw c.in-BadPlayer.is c.tell_words-in-BadPlayer.ensures
-
-pub returns-in-TooManyLines : goal.returns-in-TooManyLines
-returns-in-TooManyLines g c = rw c.in-TooManyLines.is c.tell_words-in-TooManyLines.ensures
