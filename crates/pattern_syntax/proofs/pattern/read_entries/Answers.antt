@@ -24,7 +24,7 @@ pub returns-clause-within : goal.returns-clause-within
 returns-clause-within c =
     let entries = c.loop-piece.entries.items in
     let read : entries_reading (pieces_at comma 0 c.args.text.now) ≡ Ok entries =
-        sym c.loop-piece.invariant.reads
-        ∙ ap (λ pieces. joined entries (all_or_first (map judged (enumerate_from c.loop-piece.count pieces)))) c.in_default.ensures.cases
-        ∙ joined_all entries in
+    sym c.loop-piece.invariant.reads
+    ∙ ap (λ pieces. joined entries (all_or_first (map judged (enumerate_from c.loop-piece.count pieces)))) c.in_default.ensures.cases
+    ∙ joined_all entries in
     pattern_within c.args.text.now entries c.loop-piece.count read c.loop-piece.invariant.within
