@@ -9,7 +9,11 @@ use Rattle.run_terms.specs.Fold.{edits_taken}
 use Rattle.world_canvas.specs.Canvas.{shown}
 use Rattle.world_canvas.specs.Proposals.{proposals_for}
 use Rattle.world_canvas.specs.Restoring.{changes_taken}
+use Rattle.serial_model.proofs.JobLemmas.{few_noise_leaves}
 use Rattle.serial_model.proofs.carrying.proposals.Goals as goal
+
+pub proposed-requires-clause-masks : goal.proposed-requires-clause-masks
+proposed-requires-clause-masks c = few_noise_leaves c.args.spec.now c.requires.within
 
 pub returns-clause-proposals : goal.returns-clause-proposals
 returns-clause-proposals c =
