@@ -25,6 +25,7 @@ mod text_laws;
 mod top_call;
 mod words;
 mod world_fault;
+mod world_laws;
 
 pub use checking::check;
 pub use drilling::drill;
@@ -32,3 +33,4 @@ pub use memory::Memory;
 pub use status::Status;
 pub use text_laws::{drill_text_is_unique, printed_order_is_unique};
 pub use top_call::run;
+pub use world_laws::last_worlds_are_writable;

@@ -66,6 +66,7 @@ fn laws_of_files_and_calls_return(_rt: HostRuntime) {
     world_gen::drill_players_keep_apart();
     world_gen::drill_order_is_free();
     edit_top::printed_order_is_unique();
+    edit_top::last_worlds_are_writable();
     edit_top::drill_text_is_unique();
 }
 
