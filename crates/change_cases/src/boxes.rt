@@ -39,6 +39,17 @@ pub fn tell_position(answer: &mut Vec<u8>, p: &Pos) -> Option<()> {
     push_number(answer, p.z).ok()
 }
 
+/// Puts a box behind an answer.
+pub fn tell_box(answer: &mut Vec<u8>, area: &WorldBox) -> Option<()> {
+    push_number(answer, area.width()).ok()?;
+    push_text(answer, "x").ok()?;
+    push_number(answer, area.height()).ok()?;
+    push_text(answer, "x").ok()?;
+    push_number(answer, area.length()).ok()?;
+    push_text(answer, "@").ok()?;
+    tell_position(answer, &area.least())
+}
+
 /// Puts a separator behind an answer that has something.
 pub fn tell_between(answer: &mut Vec<u8>, separator: &str) -> Option<()> {
     if answer.is_empty() {

@@ -26,6 +26,7 @@ impl Cases for ChangeCases {
             "afters" | "befores" => lists::answer_places(alloc, kind, input, answer),
             "part" | "sorted" => parts::answer(alloc, kind, input, answer),
             "walked" => parts::answer_walked(alloc, input, answer),
+            "stretches" => parts::answer_stretches(alloc, input, answer),
             "cells" | "cells-find" => parts::answer_cells(alloc, kind, input, answer),
             "find" => parts::answer_find(alloc, input, answer),
             "kept" => undo::answer(alloc, input, answer),

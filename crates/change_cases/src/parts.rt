@@ -2,13 +2,13 @@
 //!
 //! `part BOX LETTERS` builds the part of the box's blocks, `sorted` makes it of the cells one by one, and both tell each
 //! cell by its place. A block of the letter `-` isn't captured. `walked BOX LETTERS` tells of both forms how many cells
-//! they have and in how many stretches these are walked, and `find BOX LETTERS POS` the place of a position. `cells
-//! POS=LETTER ..` makes a part of cells in any order, and `cells-find POS POS=LETTER ..` tells the place of a position in
-//! it.
+//! they have and in how many stretches these are walked, `stretches BOX LETTERS` what each place of either form goes on
+//! with, and `find BOX LETTERS POS` the place of a position. `cells POS=LETTER ..` makes a part of cells in any order, and
+//! `cells-find POS POS=LETTER ..` tells the place of a position in it.
 
 use crate::boxes::{box_of, position_of};
 use crate::contents::{at_place, content_of, contents_of};
-use crate::places::{stretches, tell_places};
+use crate::places::{stretches, tell_places, tell_stretches};
 use case_lines::{Memory, push_number, push_text};
 use change_set::{Part, PartBuilder};
 use edit_terms::{CellList, Content, Pos, Source, WorldBox};
@@ -91,6 +91,15 @@ fn tell_walked(answer: &mut Vec<u8>, part: &Part) -> Option<()> {
     push_number(answer, part.len()).ok()?;
     push_text(answer, " in ").ok()?;
     push_number(answer, stretches(part)).ok()
+}
+
+pub fn answer_stretches(alloc: Global, input: &str, answer: &mut Vec<u8>) -> Option<()> {
+    let (area, letters) = input.split_once(' ')?;
+    let area = box_of(area)?;
+    let contents = contents_of(alloc, letters)?;
+    tell_stretches(answer, &built(alloc, &area, &contents).ok()?)?;
+    push_text(answer, " and ").ok()?;
+    tell_stretches(answer, &sorted(alloc, &area, &contents)?)
 }
 
 pub fn answer_cells(alloc: Global, kind: &str, input: &str, answer: &mut Vec<u8>) -> Option<()> {

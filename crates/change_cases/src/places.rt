@@ -1,9 +1,9 @@
 //! Lists of cells by their places.
 
-use crate::boxes::{tell_between, tell_position};
+use crate::boxes::{tell_between, tell_box, tell_position};
 use crate::contents::tell_letter;
 use case_lines::{push_number, push_text};
-use edit_terms::CellList;
+use edit_terms::{CellList, Stretch};
 
 /// In how many stretches of one content a list is walked.
 pub fn stretches<L: CellList>(list: &L) -> u32 {
@@ -38,4 +38,34 @@ fn tell_place<L: CellList>(answer: &mut Vec<u8>, list: &L, i: u32) -> Option<()>
     tell_letter(answer, list.state(i), list.entity(i))?;
     push_text(answer, " ").ok()?;
     push_number(answer, list.reach(i)).ok()
+}
+
+/// Puts behind an answer what each place of a list goes on with: the box, the place in it and how many blocks, or
+/// `none`.
+pub fn tell_stretches<L: CellList>(answer: &mut Vec<u8>, list: &L) -> Option<()> {
+    for i in 0..list.len() {
+        if i > 0 {
+            push_text(answer, "; ").ok()?;
+        }
+        tell_stretch_at(answer, list, i)?;
+    }
+    Some(())
+}
+
+fn tell_stretch_at<L: CellList>(answer: &mut Vec<u8>, list: &L, i: u32) -> Option<()> {
+    if i >= list.len() {
+        return None;
+    }
+    match list.stretch(i) {
+        None => push_text(answer, "none").ok(),
+        Some(stretch) => tell_stretch(answer, &stretch),
+    }
+}
+
+fn tell_stretch(answer: &mut Vec<u8>, stretch: &Stretch) -> Option<()> {
+    tell_box(answer, &stretch.part)?;
+    push_text(answer, " ").ok()?;
+    push_number(answer, stretch.start).ok()?;
+    push_text(answer, "+").ok()?;
+    push_number(answer, stretch.count).ok()
 }

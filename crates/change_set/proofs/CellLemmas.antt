@@ -13,11 +13,11 @@ use Rattle.edit_terms.proofs.AreaLemmas.{position_at_index}
 use Rattle.change_set.specs.declared.proposed.Proposed.{Proposed}
 use Rattle.change_set.specs.declared.run.Run.{Run}
 use Rattle.change_set.specs.declared.cell_run.CellRun.{CellRun}
-use Rattle.change_set.specs.Chunk.{chunk_part, place_in_chunk}
+use Rattle.edit_terms.specs.Chunk.{chunk_box, place_in_chunk}
 use Rattle.change_set.specs.Changes.{positions, rises, stretch, changes_of, afters, goes_on_behind}
 use Rattle.change_set.specs.Runs.{AreRunsFrom, AreKept, with_last_longer}
 use Rattle.change_set.specs.Cells.{BoxCells, cell_positions, stretch_cells, as_run, cells_of}
-use Rattle.change_set.proofs.ChunkLemmas.{part_held}
+use Rattle.edit_terms.proofs.ChunkLemmas.{part_held}
 use Rattle.change_set.proofs.ListLemmas.{cells, rises_two}
 use Rattle.change_set.proofs.ReadLemmas.{starts_sorted}
 use Rattle.change_set.proofs.RunLemmas.{IsExtended, CanExtend, begun, lengthened, IsLast, last_run}
@@ -37,7 +37,7 @@ afters-cells part c place (suc n) = ap (λ (xs : List (Pos × BlockContent)). (p
 
 -- a stretch of one cell is that cell
 pub one_stretch_cell : (a : Area) (p : Pos) (c : BlockContent) → holds a p ≡ true → stretch_cells a p 1 c ≡ (p, c) ∷ []
-one_stretch_cell a p c held = ap (λ (q : Pos). let xs : List (Pos × BlockContent) = (q, c) ∷ [] in xs) (position_at_index (chunk_part a p) p (part_held a p held))
+one_stretch_cell a p c held = ap (λ (q : Pos). let xs : List (Pos × BlockContent) = (q, c) ∷ [] in xs) (position_at_index (chunk_box a p) p (part_held a p held))
 
 -- behind a cell may come each position with a higher place
 pub follows_cell : (a : Area) (list : List (Pos × BlockContent)) (p q : Pos) (c : BlockContent) → rises a (cell_positions list ++ p ∷ []) ≡ true → holds a p ≡ true → holds a q ≡ true → index_of a p < index_of a q
@@ -48,20 +48,20 @@ follows_cell a list p q c h held_p held_q above =
 
 -- where a stretch may stand, from what is seen of the cells
 cells_can : (a : Area) (runs : List CellRun) (seen : BoxCells) (first : Pos) (n : ℕ) → record { area = a; cells = cells_of a runs } ≡ seen
-    → rises seen.area (cell_positions seen.cells ++ first ∷ []) ≡ true → place_in_chunk seen.area first + n ≤ volume (chunk_part seen.area first) → (n ≡ 0 → ⊥)
+    → rises seen.area (cell_positions seen.cells ++ first ∷ []) ≡ true → place_in_chunk seen.area first + n ≤ volume (chunk_box seen.area first) → (n ≡ 0 → ⊥)
     → CanExtend a (changes_of a (map as_run runs)) first n
 cells_can a runs seen first n is rising fits some =
     let back = sym is in
     let rise : rises a (cell_positions (cells_of a runs) ++ first ∷ []) ≡ true = subst (λ (s : BoxCells). rises s.area (cell_positions s.cells ++ first ∷ []) ≡ true) back rising in
     record {
       rising = subst (λ (ps : List Pos). rises a (ps ++ first ∷ []) ≡ true) (positions_of_cells (changes_of a (map as_run runs))) rise;
-      fits = subst (λ (s : BoxCells). place_in_chunk s.area first + n ≤ volume (chunk_part s.area first)) back fits;
+      fits = subst (λ (s : BoxCells). place_in_chunk s.area first + n ≤ volume (chunk_box s.area first)) back fits;
       some = omega (arith, some);
     }
 
 -- a stretch more behind the cells that runs keep: a longer last run, or a run more
 pub cells_grown : (a : Area) (runs read : List CellRun) (count : ℕ) (seen : BoxCells) (first : Pos) (n : ℕ) (c : BlockContent) → is_world_box a ≡ true → AreKept a (map as_run runs) count
-    → record { area = a; cells = cells_of a runs } ≡ seen → rises seen.area (cell_positions seen.cells ++ first ∷ []) ≡ true → place_in_chunk seen.area first + n ≤ volume (chunk_part seen.area first)
+    → record { area = a; cells = cells_of a runs } ≡ seen → rises seen.area (cell_positions seen.cells ++ first ∷ []) ≡ true → place_in_chunk seen.area first + n ≤ volume (chunk_box seen.area first)
     → (n ≡ 0 → ⊥) → read ≡ runs → goes_on_behind a (changes_of a (map as_run read)) (record { at = first; before = c; after = c }) ≡ true
     → IsExtended a (map as_run runs) count first n c c (with_last_longer (map as_run runs) n)
 cells_grown a runs read count seen first n c box kept is rising fits some same on =
@@ -69,7 +69,7 @@ cells_grown a runs read count seen first n c box kept is rising fits some same o
     (subst (λ (rs : List CellRun). goes_on_behind a (changes_of a (map as_run rs)) (record { at = first; before = c; after = c }) ≡ true) same on)
 
 pub cells_started : (a : Area) (runs read : List CellRun) (count : ℕ) (seen : BoxCells) (first : Pos) (n : ℕ) (c : BlockContent) → is_world_box a ≡ true → AreKept a (map as_run runs) count
-    → record { area = a; cells = cells_of a runs } ≡ seen → rises seen.area (cell_positions seen.cells ++ first ∷ []) ≡ true → place_in_chunk seen.area first + n ≤ volume (chunk_part seen.area first)
+    → record { area = a; cells = cells_of a runs } ≡ seen → rises seen.area (cell_positions seen.cells ++ first ∷ []) ≡ true → place_in_chunk seen.area first + n ≤ volume (chunk_box seen.area first)
     → (n ≡ 0 → ⊥) → read ≡ runs → goes_on_behind a (changes_of a (map as_run read)) (record { at = first; before = c; after = c }) ≡ false
     → IsExtended a (map as_run runs) count first n c c (map as_run (runs ++ record { first = first; start = count; length = n; content = c } ∷ []))
 cells_started a runs read count seen first n c box kept is rising fits some same apart =
@@ -84,7 +84,7 @@ pub cells_longer : (a : Area) (runs : List CellRun) (count : ℕ) (seen : BoxCel
 cells_longer a runs count seen first n c longer is more =
     ap (λ (xs : List Proposed). afters xs) more.list
     ∙ map-append (λ (d : Proposed). (d.at, d.after)) (changes_of a (map as_run runs)) (stretch a first n c c)
-    ∙ ap (λ (xs : List (Pos × BlockContent)). cells_of a runs ++ xs) (afters-cells (chunk_part a first) c (place_in_chunk a first) n)
+    ∙ ap (λ (xs : List (Pos × BlockContent)). cells_of a runs ++ xs) (afters-cells (chunk_box a first) c (place_in_chunk a first) n)
     ∙ ap (λ (s : BoxCells). s.cells ++ stretch_cells s.area first n c) is
 
 -- a last run that has room as one of changes has room

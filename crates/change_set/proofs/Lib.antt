@@ -1,4 +1,3 @@
-pub mod ChunkLemmas
 pub mod ListLemmas
 pub mod RunLemmas
 pub mod ReadLemmas

@@ -12,9 +12,9 @@ use Rattle.edit_terms.specs.World.{BlockContent}
 use Rattle.edit_terms.specs.Same.{same_content, content_decides}
 use Rattle.edit_terms.proofs.AreaLemmas.{and_both, block_at_place, held_below}
 use Rattle.change_set.specs.declared.proposed.Proposed.{Proposed}
-use Rattle.change_set.specs.Chunk.{chunk_part, is_next_cell}
+use Rattle.edit_terms.specs.Chunk.{chunk_box, is_next_cell}
 use Rattle.change_set.specs.Changes.{positions, rises_from, rises, is_change, kept_change, goes_on, breaks_behind, breaks, goes_on_behind}
-use Rattle.change_set.proofs.ChunkLemmas.{part_is_world_box, in_part, same_part, part_order}
+use Rattle.edit_terms.proofs.ChunkLemmas.{part_is_world_box, in_part, same_part, part_order}
 
 -- what the test of a rising list says of its first position
 pub record IsRisingFirst (a : Area) (least : ℕ) (p : Pos) (ps : List Pos) : Type 0 where
@@ -81,17 +81,17 @@ cells-append part b c place (suc m) n (suc t) e =
     rw e2 (ap (λ (xs : List Proposed). cell part b c place ∷ xs) (cells-append part b c (place + 1) m n t e1))
 
 -- the place of a part is that of a block of it
-pub block_of_part : (a : Area) (p : Pos) (k : ℕ) → is_world_box a ≡ true → holds a p ≡ true → k < volume (chunk_part a p) → IsBlockAt (chunk_part a p) k (position_of (chunk_part a p) k)
-block_of_part a p k box held below = block_at_place (chunk_part a p) k (part_is_world_box a p box held) below
+pub block_of_part : (a : Area) (p : Pos) (k : ℕ) → is_world_box a ≡ true → holds a p ≡ true → k < volume (chunk_box a p) → IsBlockAt (chunk_box a p) k (position_of (chunk_box a p) k)
+block_of_part a p k box held below = block_at_place (chunk_box a p) k (part_is_world_box a p box held) below
 
 -- the cells of a part rise
-pub cells_rise : (a : Area) (p : Pos) (b c : BlockContent) (k n : ℕ) → is_world_box a ≡ true → holds a p ≡ true → k + suc n ≤ volume (chunk_part a p)
-    → rises_from a (index_of a (position_of (chunk_part a p) k)) (positions (cells (chunk_part a p) b c k (suc n))) ≡ true
+pub cells_rise : (a : Area) (p : Pos) (b c : BlockContent) (k n : ℕ) → is_world_box a ≡ true → holds a p ≡ true → k + suc n ≤ volume (chunk_box a p)
+    → rises_from a (index_of a (position_of (chunk_box a p) k)) (positions (cells (chunk_box a p) b c k (suc n))) ≡ true
 cells_rise a p b c k zero box held fits =
     let here = block_of_part a p k box held (omega (arith, fits)) in
-    rising_from_first a (index_of a (position_of (chunk_part a p) k)) (position_of (chunk_part a p) k) [] (record { held = in_part a p (position_of (chunk_part a p) k) here.held; from = omega arith; rest = refl })
+    rising_from_first a (index_of a (position_of (chunk_box a p) k)) (position_of (chunk_box a p) k) [] (record { held = in_part a p (position_of (chunk_box a p) k) here.held; from = omega arith; rest = refl })
 cells_rise a p b c k (suc n) box held fits =
-    let part = chunk_part a p in
+    let part = chunk_box a p in
     let here = block_of_part a p k box held (omega (arith, fits)) in
     let next = block_of_part a p (k + 1) box held (omega (arith, fits)) in
     let order : index_of part (position_of part k) < index_of part (position_of part (k + 1)) = rw (here.place, next.place) (omega arith) in
@@ -108,10 +108,10 @@ next_in : (part : Area) (p q : Pos) → holds part q ≡ true → index_of part 
 next_in part p q held place = both_true held (eq-eqb (index_of part q) (index_of part p + 1) place)
 
 -- each cell of a part goes on where the one before it ended
-cell_goes_on : (a : Area) (p : Pos) (b c : BlockContent) (k : ℕ) → is_world_box a ≡ true → holds a p ≡ true → k + 1 < volume (chunk_part a p)
-    → goes_on a (cell (chunk_part a p) b c k) (cell (chunk_part a p) b c (k + 1)) ≡ true
+cell_goes_on : (a : Area) (p : Pos) (b c : BlockContent) (k : ℕ) → is_world_box a ≡ true → holds a p ≡ true → k + 1 < volume (chunk_box a p)
+    → goes_on a (cell (chunk_box a p) b c k) (cell (chunk_box a p) b c (k + 1)) ≡ true
 cell_goes_on a p b c k box held fits =
-    let part = chunk_part a p in
+    let part = chunk_box a p in
     let here = block_of_part a p k box held (omega (arith, fits)) in
     let next = block_of_part a p (k + 1) box held fits in
     let same = same_part a p (position_of part k) here.held in
@@ -121,8 +121,8 @@ cell_goes_on a p b c k box held fits =
     both_true is_next (both_true ((content_decides b b).1 refl) ((content_decides c c).1 refl))
 
 -- so no break stands inside the cells of a part
-pub breaks_behind-cells : (a : Area) (p : Pos) (b c : BlockContent) (k n m : ℕ) → is_world_box a ≡ true → holds a p ≡ true → k + 1 + n ≤ volume (chunk_part a p)
-    → breaks_behind a (cell (chunk_part a p) b c k) m (cells (chunk_part a p) b c (k + 1) n) ≡ []
+pub breaks_behind-cells : (a : Area) (p : Pos) (b c : BlockContent) (k n m : ℕ) → is_world_box a ≡ true → holds a p ≡ true → k + 1 + n ≤ volume (chunk_box a p)
+    → breaks_behind a (cell (chunk_box a p) b c k) m (cells (chunk_box a p) b c (k + 1) n) ≡ []
 breaks_behind-cells a p b c k zero m box held fits = refl
 breaks_behind-cells a p b c k (suc n) m box held fits =
     let on = cell_goes_on a p b c k box held (omega (arith, fits)) in

@@ -1,18 +1,21 @@
 -- What stands at a place of the changes that runs keep: the run that starts last at or before the place has it.
-use Rattle.std.proofs.Common.{◌≡◌, ℕ, zero, suc, ◌+◌, ◌-◌, ◌<◌, ◌≤◌, List, [], ◌∷◌, ◌++◌, length, Option, Some, None, slice_get, get_or, option_map, MatchOption, refl, sym, ap, ◌∙◌, subst, arith}
+use Rattle.std.proofs.Common.{◌≡◌, ℕ, zero, suc, ◌+◌, ◌-◌, ◌<◌, ◌≤◌, List, [], ◌∷◌, ◌++◌, length, Option, Some, None, slice_get, get_or, option_map, MatchOption, refl, sym, ap, ◌∙◌, subst, arith, append_assoc, take, drop}
+use Rattle.std.specs.List.{All}
 use Rattle.std.specs.List.Sorted.{IsNonDecreasingBy}
+use Rattle.std.proofs.lemmas.List.Elements.{All-nil, All-cons}
+use Rattle.std.proofs.Math.Seq.{take-append_seam, drop-append_seam}
 use Rattle.std.proofs.lemmas.List.{length-append, length-map}
 use Rattle.std.proofs.lemmas.Option.{slice_get-map, slice_get_past}
 use Rattle.std.specs.Option.{option_and_then}
-use Rattle.edit_terms.specs.CellList.{position_in, content_in, state_in, entity_in, IsSameFrom}
+use Rattle.edit_terms.specs.CellList.{position_in, content_in, state_in, entity_in, IsSameFrom, IsStretch}
 use Rattle.edit_terms.specs.declared.pos.Pos.{Pos}
-use Rattle.edit_terms.specs.Area.{Area}
+use Rattle.edit_terms.specs.Area.{Area, position_of}
 use Rattle.edit_terms.specs.World.{BlockContent}
 use Rattle.change_set.specs.declared.proposed.Proposed.{Proposed}
 use Rattle.change_set.specs.declared.run.Run.{Run}
-use Rattle.change_set.specs.Chunk.{chunk_part, place_in_chunk}
-use Rattle.change_set.specs.Changes.{run_changes, changes_of, afters, befores}
-use Rattle.change_set.specs.Runs.{IsRun, AreRunsFrom, IsRunAt, cell_of_run}
+use Rattle.edit_terms.specs.Chunk.{chunk_box, place_in_chunk}
+use Rattle.change_set.specs.Changes.{run_changes, changes_of, afters, befores, IsRunOf}
+use Rattle.change_set.specs.Runs.{IsRun, AreRunsFrom, IsRunAt, cell_of_run, rest_of}
 use Rattle.change_set.proofs.ListLemmas.{cell, cells, length-cells}
 
 -- a place in the first of two lists, and one in the second
@@ -43,7 +46,7 @@ pub record IsPlaced (a : Area) (start : ℕ) (runs : List Run) (k : ℕ) (run : 
 -- the run behind the first one starts where that ends
 next_start : (a : Area) (start : ℕ) (run : Run) (runs : List Run) → AreRunsFrom a start (run ∷ runs) → MatchOption (slice_get (run ∷ runs) 1) (0 + run.length ≡ length (changes_of a (run ∷ runs))) (λ after. after.start ≡ run.start + run.length)
 next_start a start run [] each =
-    let one : length (run_changes a run) ≡ run.length = length-cells (chunk_part a run.first) run.before run.after (place_in_chunk a run.first) run.length in
+    let one : length (run_changes a run) ≡ run.length = length-cells (chunk_box a run.first) run.before run.after (place_in_chunk a run.first) run.length in
     omega (arith, one, length-append (run_changes a run) [])
 next_start a start run (after ∷ runs) each = let first = each.0.start_is in let second = each.1.0.start_is in omega (arith, first, second)
 
@@ -57,20 +60,20 @@ pub placed : (a : Area) (start : ℕ) (runs : List Run) (k : ℕ) (run : Run) �
 placed a start [] k run each there = absurd cc
 placed a start (r ∷ runs) zero run each there =
     let same : r ≡ run = cc in
-    let one : length (run_changes a r) ≡ r.length = length-cells (chunk_part a r.first) r.before r.after (place_in_chunk a r.first) r.length in
+    let one : length (run_changes a r) ≡ r.length = length-cells (chunk_box a r.first) r.before r.after (place_in_chunk a r.first) r.length in
     let start_is = each.0.start_is in
     subst (λ (s : Run). IsPlaced a start (r ∷ runs) 0 s) same (record {
       before = 0;
       start_is = omega (arith, start_is);
       is = subst (λ (n : ℕ). IsRun a n r) (sym start_is) each.0;
       each = λ j below. let e : 0 + j ≡ j = omega arith in let in_run : j < length (run_changes a r) = omega (arith, one, below) in
-          rw e (slice_get-append_left (run_changes a r) (changes_of a runs) j in_run ∙ slice_get-cells (chunk_part a r.first) r.before r.after (place_in_chunk a r.first) r.length j (place_in_chunk a r.first + j) below refl);
+          rw e (slice_get-append_left (run_changes a r) (changes_of a runs) j in_run ∙ slice_get-cells (chunk_box a r.first) r.before r.after (place_in_chunk a r.first) r.length j (place_in_chunk a r.first + j) below refl);
       within = omega (arith, one, length-append (run_changes a r) (changes_of a runs));
       next = next_start a start r runs each;
     })
 placed a start (r ∷ runs) (suc k) run each there =
     let rest = placed a (start + r.length) runs k run each.1 there in
-    let one : length (run_changes a r) ≡ r.length = length-cells (chunk_part a r.first) r.before r.after (place_in_chunk a r.first) r.length in
+    let one : length (run_changes a r) ≡ r.length = length-cells (chunk_box a r.first) r.before r.after (place_in_chunk a r.first) r.length in
     let long = length-append (run_changes a r) (changes_of a runs) in
     record {
       before = r.length + rest.before;
@@ -154,6 +157,33 @@ length-afters list = length-map list (λ (d : Proposed). (d.at, d.after))
 pub length-befores : (list : List Proposed) → length (befores list) ≡ length list
 length-befores list = length-map list (λ (d : Proposed). (d.at, d.before))
 
+-- what is left of a run behind a place is a stretch, of whatever is read of the changes
+stretch_read : (a : Area) (list : List Proposed) (read : List (Pos × BlockContent)) (i : ℕ) (run : Run) (content : BlockContent) → IsRunAt a list i run → length read ≡ length list
+    → ((k : ℕ) → i ≤ k → k < run.start + run.length → slice_get read k ≡ Some ((cell_of_run a run (k - run.start)).at, content))
+    → IsSameFrom read i (run.length - (i - run.start)) → IsStretch read i (rest_of a run.first run.length (i - run.start))
+stretch_read a list read i run content is as_many there stays =
+    let from = is.from in
+    let to = is.to in
+    let fits = is.fits in
+    let within = is.within in
+    record {
+      some = omega (arith, from, to);
+      within = omega (arith, from, to, within, as_many);
+      fits = omega (arith, from, to, fits);
+      places = λ further below.
+          let high : i + further < run.start + run.length = omega (arith, from, to, below) in
+          let e : place_in_chunk a run.first + (i + further - run.start) ≡ place_in_chunk a run.first + (i - run.start) + further = omega (arith, from) in
+          position_there read (i + further) _ content (there (i + further) (omega arith) high)
+          ∙ ap (λ (n : ℕ). Some (position_of (chunk_box a run.first) n)) e;
+      same = stays;
+    }
+
+pub afters_stretch : (a : Area) (list : List Proposed) (i : ℕ) (run : Run) → IsRunAt a list i run → IsStretch (afters list) i (rest_of a run.first run.length (i - run.start))
+afters_stretch a list i run is = stretch_read a list (afters list) i run run.after is (length-afters list) (after_read a list i run is) (afters_stay a list i run is)
+
+pub befores_stretch : (a : Area) (list : List Proposed) (i : ℕ) (run : Run) → IsRunAt a list i run → IsStretch (befores list) i (rest_of a run.first run.length (i - run.start))
+befores_stretch a list i run is = stretch_read a list (befores list) i run run.before is (length-befores list) (before_read a list i run is) (befores_stay a list i run is)
+
 -- the starts of runs rise
 start_from : (a : Area) (start : ℕ) (runs : List Run) (j : ℕ) (d : Run) → AreRunsFrom a start runs → j < length runs → start ≤ (get_or runs j d).start
 start_from a start [] j d each below = absurd (omega (arith, below))
@@ -174,5 +204,24 @@ starts_rise a start (run ∷ runs) each (suc i) (suc j) d order below = starts_r
 
 pub starts_sorted : (a : Area) (runs : List Run) → AreRunsFrom a 0 runs → IsNonDecreasingBy (λ (run : Run). run.start) runs
 starts_sorted a runs each = starts_rise a 0 runs each
+
+-- each of the runs is one of the list that they make, behind changes that stand before it
+runs_of : (a : Area) (start : ℕ) (runs : List Run) (earlier list : List Proposed) → AreRunsFrom a start runs → start ≡ length earlier → list ≡ earlier ++ changes_of a runs
+    → All (IsRunOf (record { area = a; list = list })) runs
+runs_of a start [] earlier list each e whole = All-nil (IsRunOf (record { area = a; list = list }))
+runs_of a start (run ∷ runs) earlier list each e whole =
+    let is = each.0 in
+    let place : run.start ≡ length earlier = is.start_is ∙ e in
+    let one : length (run_changes a run) ≡ run.length = length-cells (chunk_box a run.first) run.before run.after (place_in_chunk a run.first) run.length in
+    let behind : drop run.start list ≡ run_changes a run ++ changes_of a runs =
+    (λ i. drop (place i) (whole i)) ∙ drop-append_seam earlier (run_changes a run ++ changes_of a runs) in
+    let here : take run.length (drop run.start list) ≡ run_changes a run =
+    (λ i. take (sym one i) (behind i)) ∙ take-append_seam (run_changes a run) (changes_of a runs) in
+    let next : start + run.length ≡ length (earlier ++ run_changes a run) = omega (arith, e, one, length-append earlier (run_changes a run)) in
+    All-cons (IsRunOf (record { area = a; list = list })) run runs (record { some = is.some; held = is.held; fits = is.fits; changes = here })
+    (runs_of a (start + run.length) runs (earlier ++ run_changes a run) list each.1 next (whole ∙ sym (append_assoc earlier (run_changes a run) (changes_of a runs))))
+
+pub each_is_run_of : (a : Area) (runs : List Run) → AreRunsFrom a 0 runs → All (IsRunOf (record { area = a; list = changes_of a runs })) runs
+each_is_run_of a runs each = runs_of a 0 runs [] (changes_of a runs) each refl refl
 
 pub ruleset as_many = (length-afters, length-befores)

@@ -12,10 +12,10 @@ use Rattle.edit_terms.specs.Same.{same_content, content_decides}
 use Rattle.edit_terms.proofs.AreaLemmas.{and_both, limits, position_at_index, held_below}
 use Rattle.change_set.specs.declared.proposed.Proposed.{Proposed}
 use Rattle.change_set.specs.declared.run.Run.{Run}
-use Rattle.change_set.specs.Chunk.{chunk_part, place_in_chunk}
+use Rattle.edit_terms.specs.Chunk.{chunk_box, place_in_chunk}
 use Rattle.change_set.specs.Changes.{positions, rises_from, rises, is_change, ChangeList, stretch, kept_stretch, kept_change, run_changes, changes_of, breaks_behind, breaks, goes_on_behind}
 use Rattle.change_set.specs.Runs.{IsRun, AreRunsFrom, AreKept, AreChangesKept, follows, with_last_longer}
-use Rattle.change_set.proofs.ChunkLemmas.{same_part, part_held, in_part, part_order}
+use Rattle.edit_terms.proofs.ChunkLemmas.{same_part, part_held, in_part, part_order}
 use Rattle.change_set.proofs.ListLemmas.{rising_from_first, rises_lower, rises_join, rises_length, cell, cells, length-cells, cells-append, cells_rise, breaks_behind-cells, goes_on_behind-append, goes_on_behind-cells, breaks-push, cells_change, block_of_part}
 
 -- what holds once a stretch of n changes stands behind the changes that runs keep
@@ -27,7 +27,7 @@ pub record IsExtended (a : Area) (runs : List Run) (count : ℕ) (first : Pos) (
 -- where a stretch may stand behind changes
 pub record CanExtend (a : Area) (list : List Proposed) (first : Pos) (n : ℕ) : Type 0 where
   pub rising : rises a (positions list ++ first ∷ []) ≡ true
-  pub fits : place_in_chunk a first + n ≤ volume (chunk_part a first)
+  pub fits : place_in_chunk a first + n ≤ volume (chunk_box a first)
   pub some : 0 < n
 
 -- the position behind rising ones is of the box
@@ -37,10 +37,10 @@ held_last a least (q ∷ ps) p h = held_last a (index_of a q + 1) ps p (and_both
 
 -- a stretch has its first cell first
 stretch_first : (a : Area) (first : Pos) (n : ℕ) (b c : BlockContent) → holds a first ≡ true
-    → stretch a first (suc n) b c ≡ record { at = first; before = b; after = c } ∷ cells (chunk_part a first) b c (place_in_chunk a first + 1) n
+    → stretch a first (suc n) b c ≡ record { at = first; before = b; after = c } ∷ cells (chunk_box a first) b c (place_in_chunk a first + 1) n
 stretch_first a first n b c held =
-    let e = position_at_index (chunk_part a first) first (part_held a first held) in
-    ap (λ (p : Pos). record { at = p; before = b; after = c } ∷ cells (chunk_part a first) b c (place_in_chunk a first + 1) n) e
+    let e = position_at_index (chunk_box a first) first (part_held a first held) in
+    ap (λ (p : Pos). record { at = p; before = b; after = c } ∷ cells (chunk_box a first) b c (place_in_chunk a first + 1) n) e
 
 -- the facts of the list alone: it rises, and it isn't too long
 record IsLonger (a : Area) (list longer : List Proposed) (n : ℕ) : Type 0 where
@@ -53,7 +53,7 @@ longer_list : (a : Area) (list : List Proposed) (first : Pos) (n : ℕ) (b c : B
 longer_list a list first zero b c box can = absurd (omega (arith, can.some))
 longer_list a list first (suc n) b c box can =
     let held = held_last a 0 (positions list) first can.rising in
-    let part = chunk_part a first in
+    let part = chunk_box a first in
     let place = place_in_chunk a first in
     let is_first : position_of part place ≡ first = position_at_index part first (part_held a first held) in
     let rise = cells_rise a first b c place n box held can.fits in
@@ -79,7 +79,7 @@ stretch_breaks : (a : Area) (list : List Proposed) (first : Pos) (n : ℕ) (b c 
 stretch_breaks a list first zero b c box can = absurd (omega (arith, can.some))
 stretch_breaks a list first (suc n) b c box can =
     let held = held_last a 0 (positions list) first can.rising in
-    let part = chunk_part a first in
+    let part = chunk_box a first in
     let place = place_in_chunk a first in
     let d : Proposed = record { at = first; before = b; after = c } in
     let is_first : cell part b c place ≡ d = ap (λ (p : Pos). let e : Proposed = record { at = p; before = b; after = c } in e) (position_at_index part first (part_held a first held)) in
@@ -96,7 +96,7 @@ stretch_breaks a list first (suc n) b c box can =
 run_behind : (a : Area) (start : ℕ) (runs : List Run) (run : Run) → AreRunsFrom a start runs → IsRun a (start + length (changes_of a runs)) run → AreRunsFrom a start (runs ++ run ∷ [])
 run_behind a start [] run each is = let e : start + 0 ≡ start = omega arith in (subst (λ (s : ℕ). IsRun a s run) e is, tt)
 run_behind a start (r ∷ runs) run each is =
-    let one : length (run_changes a r) ≡ r.length = length-cells (chunk_part a r.first) r.before r.after (place_in_chunk a r.first) r.length in
+    let one : length (run_changes a r) ≡ r.length = length-cells (chunk_box a r.first) r.before r.after (place_in_chunk a r.first) r.length in
     let e : start + length (run_changes a r ++ changes_of a runs) ≡ start + r.length + length (changes_of a runs) =
     ap (λ (m : ℕ). start + m) (length-append (run_changes a r) (changes_of a runs)) ∙ omega (arith, one) in
     (each.0, run_behind a (start + r.length) runs run each.1 (subst (λ (s : ℕ). IsRun a s run) e is))
@@ -129,7 +129,7 @@ begun a runs count first n b c box kept can apart =
 -- a run and the stretch behind it are one stretch
 record IsOneStretch (a : Area) (run : Run) (first : Pos) (n : ℕ) (b c : BlockContent) : Type 0 where
   pub longer : run_changes a (record run { length = run.length + n }) ≡ run_changes a run ++ stretch a first n b c
-  pub room : place_in_chunk a run.first + (run.length + n) ≤ volume (chunk_part a run.first)
+  pub room : place_in_chunk a run.first + (run.length + n) ≤ volume (chunk_box a run.first)
 
 -- what goes on behind the cells of a run is the next cell, with the run's contents
 pub goes_on-run : (a : Area) (start : ℕ) (run : Run) (d : Proposed) → is_world_box a ≡ true → IsRun a start run
@@ -139,11 +139,11 @@ goes_on-run a start run d box is = by run.length refl
     by : (len : ℕ) → run.length ≡ len → goes_on_behind a (run_changes a run) d ≡ (follows a run.first run.length d.at && (same_content run.before d.before && same_content run.after d.after))
     by zero e = absurd (omega (arith, is.some, e))
     by (suc m) e =
-        let part = chunk_part a run.first in
+        let part = chunk_box a run.first in
         let place = place_in_chunk a run.first in
         let below : place + m < volume part = omega (arith, is.fits, e) in
         let last = block_of_part a run.first (place + m) box is.held below in
-        let same : chunk_part a (position_of part (place + m)) ≡ part = same_part a run.first (position_of part (place + m)) last.held in
+        let same : chunk_box a (position_of part (place + m)) ≡ part = same_part a run.first (position_of part (place + m)) last.held in
         let step : index_of part (position_of part (place + m)) + 1 ≡ place + run.length = omega (arith, last.place, e) in
         ap (λ (count : ℕ). goes_on_behind a (cells part run.before run.after place count) d) e
         ∙ goes_on_behind-cells a part run.before run.after place m (place + m) d refl
@@ -152,23 +152,23 @@ goes_on-run a start run d box is = by run.length refl
 
 -- where the change goes on behind a run, run and stretch are one
 one_stretch : (a : Area) (start : ℕ) (run : Run) (first : Pos) (n : ℕ) (b c : BlockContent) → is_world_box a ≡ true → IsRun a start run
-    → place_in_chunk a first + n ≤ volume (chunk_part a first)
+    → place_in_chunk a first + n ≤ volume (chunk_box a first)
     → goes_on_behind a (run_changes a run) (record { at = first; before = b; after = c }) ≡ true → IsOneStretch a run first n b c
 one_stretch a start run first n b c box is fits on =
     let d : Proposed = record { at = first; before = b; after = c } in
     let seen = sym (goes_on-run a start run d box is) ∙ on in
     let parts = and_both (follows a run.first run.length first) (same_content run.before b && same_content run.after c) seen in
-    let where_is = and_both (holds (chunk_part a run.first) first) _ parts.0 in
+    let where_is = and_both (holds (chunk_box a run.first) first) _ parts.0 in
     let contents = and_both (same_content run.before b) (same_content run.after c) parts.1 in
-    let place : index_of (chunk_part a run.first) first ≡ place_in_chunk a run.first + run.length = eqb-true _ _ where_is.1 in
-    let same : chunk_part a first ≡ chunk_part a run.first = same_part a run.first first where_is.0 in
+    let place : index_of (chunk_box a run.first) first ≡ place_in_chunk a run.first + run.length = eqb-true _ _ where_is.1 in
+    let same : chunk_box a first ≡ chunk_box a run.first = same_part a run.first first where_is.0 in
     let eb : run.before ≡ b = (content_decides run.before b).0 contents.0 in
     let ec : run.after ≡ c = (content_decides run.after c).0 contents.1 in
-    let joined = cells-append (chunk_part a run.first) run.before run.after (place_in_chunk a run.first) run.length n (run.length + n) refl in
+    let joined = cells-append (chunk_box a run.first) run.before run.after (place_in_chunk a run.first) run.length n (run.length + n) refl in
     let there : place_in_chunk a first ≡ place_in_chunk a run.first + run.length = ap (λ (part : Area). index_of part first) same ∙ place in
     let back = sym same in
     let start_is = sym there in
-    let second : cells (chunk_part a run.first) run.before run.after (place_in_chunk a run.first + run.length) n ≡ stretch a first n b c =
+    let second : cells (chunk_box a run.first) run.before run.after (place_in_chunk a run.first + run.length) n ≡ stretch a first n b c =
     λ i. cells (back i) (eb i) (ec i) (start_is i) n in
     record {
       longer = joined ∙ ap (λ (xs : List Proposed). run_changes a run ++ xs) second;
@@ -193,7 +193,7 @@ headed a start run runs each = by run.length refl
     by : (len : ℕ) → run.length ≡ len → IsHeaded (changes_of a (run ∷ runs))
     by zero e = absurd (omega (arith, each.0.some, e))
     by (suc m) e =
-        let part = chunk_part a run.first in
+        let part = chunk_box a run.first in
         let place = place_in_chunk a run.first in
         record {
           head = cell part run.before run.after place;
@@ -209,7 +209,7 @@ goes_on-rest a start first next runs d each =
     ap (λ (xs : List Proposed). goes_on_behind a (run_changes a first ++ xs) d) h.is ∙ goes_on_behind-append a (run_changes a first) h.head h.rest d ∙ ap (λ (xs : List Proposed). goes_on_behind a xs d) (sym h.is)
 
 last_longer : (a : Area) (start : ℕ) (runs : List Run) (first : Pos) (n : ℕ) (b c : BlockContent) → is_world_box a ≡ true → AreRunsFrom a start runs
-    → place_in_chunk a first + n ≤ volume (chunk_part a first)
+    → place_in_chunk a first + n ≤ volume (chunk_box a first)
     → goes_on_behind a (changes_of a runs) (record { at = first; before = b; after = c }) ≡ true → IsLastLonger a start runs first n b c
 last_longer a start [] first n b c box each fits on = absurd cc
 last_longer a start (run ∷ []) first n b c box each fits on =
@@ -282,19 +282,19 @@ set_last (r ∷ next ∷ runs) (suc k) more run e there = ap (λ (rs : List Run)
 pub last_fits : (a : Area) (start : ℕ) (runs : List Run) (k more : ℕ) → AreRunsFrom a start runs → length (changes_of a runs) + more ≤ 33554432 → IfSome (slice_get runs k) (λ run. run.length + more < 4294967296)
 last_fits a start [] k more each small = tt
 last_fits a start (run ∷ runs) zero more each small =
-    let one : length (run_changes a run) ≡ run.length = length-cells (chunk_part a run.first) run.before run.after (place_in_chunk a run.first) run.length in
+    let one : length (run_changes a run) ≡ run.length = length-cells (chunk_box a run.first) run.before run.after (place_in_chunk a run.first) run.length in
     omega (arith, small, one, length-append (run_changes a run) (changes_of a runs))
 last_fits a start (run ∷ runs) (suc k) more each small = last_fits a (start + run.length) runs k more each.1 (omega (arith, small, length-append (run_changes a run) (changes_of a runs)))
 
 -- where a stretch may stand, from what is seen of the changes
 pub can_extend : (a : Area) (runs : List Run) (seen : ChangeList) (first : Pos) (n : ℕ) → record { area = a; list = changes_of a runs } ≡ seen
-    → rises seen.area (positions seen.list ++ first ∷ []) ≡ true → place_in_chunk seen.area first + n ≤ volume (chunk_part seen.area first) → (n ≡ 0 → ⊥)
+    → rises seen.area (positions seen.list ++ first ∷ []) ≡ true → place_in_chunk seen.area first + n ≤ volume (chunk_box seen.area first) → (n ≡ 0 → ⊥)
     → CanExtend a (changes_of a runs) first n
 can_extend a runs seen first n is rising fits some =
     let back = sym is in
     record {
       rising = subst (λ (s : ChangeList). rises s.area (positions s.list ++ first ∷ []) ≡ true) back rising;
-      fits = subst (λ (s : ChangeList). place_in_chunk s.area first + n ≤ volume (chunk_part s.area first)) back fits;
+      fits = subst (λ (s : ChangeList). place_in_chunk s.area first + n ≤ volume (chunk_box s.area first)) back fits;
       some = omega (arith, some);
     }
 
@@ -310,12 +310,12 @@ pub changes_kept : (a : Area) (runs : List Run) (count : ℕ) (first : Pos) (n :
     → IsExtended a runs count first n b c longer → AreChangesKept a longer (count + n)
 changes_kept a runs count first n b c longer kept differs more = record {
   kept = more.kept;
-  changing = rw (more.list, list_all-append is_change (changes_of a runs) (stretch a first n b c)) (both_true kept.changing (cells_change (chunk_part a first) b c (place_in_chunk a first) n differs));
+  changing = rw (more.list, list_all-append is_change (changes_of a runs) (stretch a first n b c)) (both_true kept.changing (cells_change (chunk_box a first) b c (place_in_chunk a first) n differs));
 }
 
 -- the same from what is read and seen: a longer last run, or a run more
 pub grown : (a : Area) (runs read : List Run) (count : ℕ) (seen : ChangeList) (first : Pos) (n : ℕ) (b c : BlockContent) → is_world_box a ≡ true → AreKept a runs count
-    → record { area = a; list = changes_of a runs } ≡ seen → rises seen.area (positions seen.list ++ first ∷ []) ≡ true → place_in_chunk seen.area first + n ≤ volume (chunk_part seen.area first)
+    → record { area = a; list = changes_of a runs } ≡ seen → rises seen.area (positions seen.list ++ first ∷ []) ≡ true → place_in_chunk seen.area first + n ≤ volume (chunk_box seen.area first)
     → (n ≡ 0 → ⊥) → read ≡ runs → goes_on_behind a (changes_of a read) (record { at = first; before = b; after = c }) ≡ true
     → IsExtended a runs count first n b c (with_last_longer runs n)
 grown a runs read count seen first n b c box kept is rising fits some same on =
@@ -323,7 +323,7 @@ grown a runs read count seen first n b c box kept is rising fits some same on =
     (subst (λ (rs : List Run). goes_on_behind a (changes_of a rs) (record { at = first; before = b; after = c }) ≡ true) same on)
 
 pub started : (a : Area) (runs read : List Run) (count : ℕ) (seen : ChangeList) (first : Pos) (n : ℕ) (b c : BlockContent) → is_world_box a ≡ true → AreKept a runs count
-    → record { area = a; list = changes_of a runs } ≡ seen → rises seen.area (positions seen.list ++ first ∷ []) ≡ true → place_in_chunk seen.area first + n ≤ volume (chunk_part seen.area first)
+    → record { area = a; list = changes_of a runs } ≡ seen → rises seen.area (positions seen.list ++ first ∷ []) ≡ true → place_in_chunk seen.area first + n ≤ volume (chunk_box seen.area first)
     → (n ≡ 0 → ⊥) → read ≡ runs → goes_on_behind a (changes_of a read) (record { at = first; before = b; after = c }) ≡ false
     → IsExtended a runs count first n b c (runs ++ record { first = first; start = count; length = n; before = b; after = c } ∷ [])
 started a runs read count seen first n b c box kept is rising fits some same apart =
@@ -334,8 +334,8 @@ started a runs read count seen first n b c box kept is rising fits some same apa
 pub one_cell : (a : Area) (p : Pos) (b c : BlockContent) → holds a p ≡ true → kept_stretch a p 1 b c ≡ kept_change (record { at = p; before = b; after = c })
 one_cell a p b c held = ap (λ (xs : List Proposed). cond (same_content b c) [] xs) (stretch_first a p 0 b c held)
 
-pub one_cell_fits : (a : Area) (p : Pos) → holds a p ≡ true → place_in_chunk a p + 1 ≤ volume (chunk_part a p)
-one_cell_fits a p held = let below = held_below (chunk_part a p) p (part_held a p held) in omega (arith, below)
+pub one_cell_fits : (a : Area) (p : Pos) → holds a p ≡ true → place_in_chunk a p + 1 ≤ volume (chunk_box a p)
+one_cell_fits a p held = let below = held_below (chunk_box a p) p (part_held a p held) in omega (arith, below)
 
 pub rising_held : (a : Area) (ps : List Pos) (p : Pos) → rises a (ps ++ p ∷ []) ≡ true → holds a p ≡ true
 rising_held a ps p h = held_last a 0 ps p h
@@ -346,10 +346,10 @@ first_fails true r t e p = absurd cc
 first_fails false r t e p = sym e
 
 -- the cells of a stretch rise up to a later cell of their chunk
-cells_up_to : (a : Area) (p q : Pos) (b c : BlockContent) (k n : ℕ) → is_world_box a ≡ true → holds a p ≡ true → holds (chunk_part a p) q ≡ true → k + suc n ≤ volume (chunk_part a p) → k + suc n ≤ index_of (chunk_part a p) q
-    → rises_from a (index_of a (position_of (chunk_part a p) k)) (positions (cells (chunk_part a p) b c k (suc n)) ++ q ∷ []) ≡ true
+cells_up_to : (a : Area) (p q : Pos) (b c : BlockContent) (k n : ℕ) → is_world_box a ≡ true → holds a p ≡ true → holds (chunk_box a p) q ≡ true → k + suc n ≤ volume (chunk_box a p) → k + suc n ≤ index_of (chunk_box a p) q
+    → rises_from a (index_of a (position_of (chunk_box a p) k)) (positions (cells (chunk_box a p) b c k (suc n)) ++ q ∷ []) ≡ true
 cells_up_to a p q b c k zero box held held_q fits above =
-    let part = chunk_part a p in
+    let part = chunk_box a p in
     let here = block_of_part a p k box held (omega (arith, fits)) in
     let order : index_of part (position_of part k) < index_of part q = rw here.place (omega (arith, above)) in
     let less : index_of a (position_of part k) < index_of a q = part_order a p (position_of part k) q held here.held held_q order in
@@ -359,7 +359,7 @@ cells_up_to a p q b c k zero box held held_q fits above =
       rest = rising_from_first a (index_of a (position_of part k) + 1) q [] (record { held = in_part a p q held_q; from = omega (arith, less); rest = refl });
     })
 cells_up_to a p q b c k (suc n) box held held_q fits above =
-    let part = chunk_part a p in
+    let part = chunk_box a p in
     let here = block_of_part a p k box held (omega (arith, fits)) in
     let next = block_of_part a p (k + 1) box held (omega (arith, fits)) in
     let order : index_of part (position_of part k) < index_of part (position_of part (k + 1)) = rw (here.place, next.place) (omega arith) in
@@ -373,11 +373,11 @@ cells_up_to a p q b c k (suc n) box held held_q fits above =
 
 -- behind a stretch may come each later cell of its chunk
 stretch_up_to : (a : Area) (list : List Proposed) (first q : Pos) (n : ℕ) (b c : BlockContent) → is_world_box a ≡ true → rises a (positions list ++ first ∷ []) ≡ true
-    → place_in_chunk a first + suc n ≤ volume (chunk_part a first) → holds (chunk_part a first) q ≡ true → place_in_chunk a first + suc n ≤ index_of (chunk_part a first) q
+    → place_in_chunk a first + suc n ≤ volume (chunk_box a first) → holds (chunk_box a first) q ≡ true → place_in_chunk a first + suc n ≤ index_of (chunk_box a first) q
     → rises a (positions (list ++ stretch a first (suc n) b c) ++ q ∷ []) ≡ true
 stretch_up_to a list first q n b c box rising fits held_q above =
     let held = held_last a 0 (positions list) first rising in
-    let part = chunk_part a first in
+    let part = chunk_box a first in
     let place = place_in_chunk a first in
     let is_first : position_of part place ≡ first = position_at_index part first (part_held a first held) in
     let rest = positions (cells part b c (place + 1) n) ++ q ∷ [] in
@@ -390,7 +390,7 @@ stretch_up_to a list first q n b c box rising fits held_q above =
 
 -- the same where equal contents are left out
 pub follows_stretch : (a : Area) (list : List Proposed) (first q : Pos) (n : ℕ) (b c : BlockContent) → is_world_box a ≡ true → rises a (positions list ++ first ∷ []) ≡ true → rises a (positions list ++ q ∷ []) ≡ true
-    → place_in_chunk a first + suc n ≤ volume (chunk_part a first) → holds (chunk_part a first) q ≡ true → place_in_chunk a first + suc n ≤ index_of (chunk_part a first) q
+    → place_in_chunk a first + suc n ≤ volume (chunk_box a first) → holds (chunk_box a first) q ≡ true → place_in_chunk a first + suc n ≤ index_of (chunk_box a first) q
     → rises a (positions (list ++ kept_stretch a first (suc n) b c) ++ q ∷ []) ≡ true
 follows_stretch a list first q n b c box rising behind fits held_q above = by (same_content b c)
   where

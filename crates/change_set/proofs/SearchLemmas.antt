@@ -11,11 +11,11 @@ use Rattle.edit_terms.proofs.AreaLemmas.{limits, position_at_index}
 use Rattle.change_set.specs.declared.proposed.Proposed.{Proposed}
 use Rattle.change_set.specs.declared.run.Run.{Run}
 use Rattle.change_set.specs.declared.cell_run.CellRun.{CellRun}
-use Rattle.change_set.specs.Chunk.{chunk_part, place_in_chunk}
+use Rattle.edit_terms.specs.Chunk.{chunk_box, place_in_chunk}
 use Rattle.change_set.specs.Changes.{positions, rises_from, rises, changes_of}
 use Rattle.change_set.specs.Runs.{AreRunsFrom, IsRunAt, cell_of_run}
 use Rattle.change_set.specs.Cells.{as_run, place_or_end, StartsBehind, IsLastFrom}
-use Rattle.change_set.proofs.ChunkLemmas.{part_held}
+use Rattle.edit_terms.proofs.ChunkLemmas.{part_held}
 use Rattle.change_set.proofs.ListLemmas.{rising_first, rises_length, block_of_part}
 use Rattle.change_set.proofs.ReadLemmas.{IsPlaced, placed, run_at}
 use Rattle.change_set.proofs.CellLemmas.{cell_starts_sorted, seen_as, read_as}
@@ -111,7 +111,7 @@ rises_weakly a least ps i j p q h at_i at_j order = elim (cases_lt i j) as (λ _
 pub first_there : (a : Area) (runs : List Run) (k : ℕ) (run : Run) → AreRunsFrom a 0 runs → slice_get runs k ≡ Some run → slice_get (positions (changes_of a runs)) run.start ≡ Some run.first
 first_there a runs k run each there =
     let p = placed a 0 runs k run each there in
-    let part = chunk_part a run.first in
+    let part = chunk_box a run.first in
     let start : p.before + 0 ≡ run.start = omega (arith, p.start_is) in
     let here : slice_get (changes_of a runs) run.start ≡ Some (cell_of_run a run 0) = subst (λ (n : ℕ). slice_get (changes_of a runs) n ≡ Some (cell_of_run a run 0)) start (p.each 0 p.is.some) in
     let none_further : place_in_chunk a run.first + 0 ≡ place_in_chunk a run.first = omega arith in
@@ -168,17 +168,17 @@ none_before a (run ∷ runs) p i each rising behind there =
     omega (arith, low, high)
 
 -- a position of a stretch is one of its cells
-pub cell_there : (a : Area) (first p : Pos) (length j : ℕ) → is_world_box a ≡ true → holds a first ≡ true → place_in_chunk a first + length ≤ volume (chunk_part a first) → j < length
-    → position_of (chunk_part a first) (place_in_chunk a first + j) ≡ p → IsBlockAt (chunk_part a first) (place_in_chunk a first + j) p
+pub cell_there : (a : Area) (first p : Pos) (length j : ℕ) → is_world_box a ≡ true → holds a first ≡ true → place_in_chunk a first + length ≤ volume (chunk_box a first) → j < length
+    → position_of (chunk_box a first) (place_in_chunk a first + j) ≡ p → IsBlockAt (chunk_box a first) (place_in_chunk a first + j) p
 cell_there a first p length j box held fits below is =
-    subst (λ (q : Pos). IsBlockAt (chunk_part a first) (place_in_chunk a first + j) q) is (block_of_part a first (place_in_chunk a first + j) box held (omega (arith, fits, below)))
+    subst (λ (q : Pos). IsBlockAt (chunk_box a first) (place_in_chunk a first + j) q) is (block_of_part a first (place_in_chunk a first + j) box held (omega (arith, fits, below)))
 
 -- the position of a change of a run
-run_cell : (a : Area) (list : List Proposed) (run : Run) (i j : ℕ) → slice_get list i ≡ Some (cell_of_run a run j) → slice_get (positions list) i ≡ Some (position_of (chunk_part a run.first) (place_in_chunk a run.first + j))
+run_cell : (a : Area) (list : List Proposed) (run : Run) (i j : ℕ) → slice_get list i ≡ Some (cell_of_run a run j) → slice_get (positions list) i ≡ Some (position_of (chunk_box a run.first) (place_in_chunk a run.first + j))
 run_cell a list run i j here = slice_get-map (λ (d : Proposed). d.at) list i ∙ ap (option_map (λ (d : Proposed). d.at)) here
 
 pub found_there : (a : Area) (runs : List CellRun) (k : ℕ) (run : CellRun) (j : ℕ) (p : Pos) → AreRunsFrom a 0 (map as_run runs) → slice_get runs k ≡ Some run → j < run.length
-    → position_of (chunk_part a run.first) (place_in_chunk a run.first + j) ≡ p → slice_get (positions (changes_of a (map as_run runs))) (run.start + j) ≡ Some p
+    → position_of (chunk_box a run.first) (place_in_chunk a run.first + j) ≡ p → slice_get (positions (changes_of a (map as_run runs))) (run.start + j) ≡ Some p
 found_there a runs k run j p each there below is =
     let at = placed a 0 (map as_run runs) k (as_run run) each (read_as runs k run there) in
     let place : at.before + j ≡ run.start + j = omega (arith, at.start_is) in
@@ -198,7 +198,7 @@ place_is_small a runs k run j box each rising there below =
 
 -- no cell has a position that the last run which doesn't start behind it doesn't have
 pub none_there : (a : Area) (runs : List CellRun) (p : Pos) (run : CellRun) (i : ℕ) → AreRunsFrom a 0 (map as_run runs) → rises a (positions (changes_of a (map as_run runs))) ≡ true
-    → IsLastFrom a runs (index_of a p) run → ((j : ℕ) → j < run.length → position_of (chunk_part a run.first) (place_in_chunk a run.first + j) ≡ p → ⊥)
+    → IsLastFrom a runs (index_of a p) run → ((j : ℕ) → j < run.length → position_of (chunk_box a run.first) (place_in_chunk a run.first + j) ≡ p → ⊥)
     → slice_get (positions (changes_of a (map as_run runs))) i ≡ Some p → ⊥
 none_there a runs p run i each rising last not_in there = elim (cases_lt i run.start) as (λ _. ⊥) [
   | inl before ↦ (let less : index_of a p < index_of a run.first = rises_strictly a 0 ps i run.start p run.first rising there (first_there a seen last.number (as_run run) each number) before in omega (arith, less, last.from))
@@ -228,7 +228,7 @@ none_there a runs p run i each rising last not_in there = elim (cases_lt i run.s
         let below : i - run.start < run.length = omega (arith, from, inside) in
         let place : at.before + (i - run.start) ≡ i = omega (arith, at.start_is, from) in
         let here = subst (λ (n : ℕ). slice_get list n ≡ Some (cell_of_run a (as_run run) (i - run.start))) place (at.each (i - run.start) below) in
-        let two : Some (position_of (chunk_part a run.first) (place_in_chunk a run.first + (i - run.start))) ≡ Some p = sym (run_cell a list (as_run run) i (i - run.start) here) ∙ there in
+        let two : Some (position_of (chunk_box a run.first) (place_in_chunk a run.first + (i - run.start))) ≡ Some p = sym (run_cell a list (as_run run) i (i - run.start) here) ∙ there in
         not_in (i - run.start) below cc
 
     by : (o : Option Run) → slice_get seen (last.number + 1) ≡ o → run.start + run.length ≤ i → ⊥

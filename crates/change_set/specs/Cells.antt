@@ -4,7 +4,7 @@ use Rattle.std.specs.List.{range_with_len}
 use Rattle.edit_terms.specs.declared.pos.Pos.{Pos}
 use Rattle.edit_terms.specs.Area.{Area, holds, index_of, position_of, volume}
 use Rattle.edit_terms.specs.World.{BlockContent}
-use Rattle.change_set.specs.Chunk.{chunk_part, place_in_chunk}
+use Rattle.edit_terms.specs.Chunk.{chunk_box, place_in_chunk}
 use Rattle.change_set.specs.Changes.{changes_of, afters}
 use Rattle.change_set.specs.declared.run.Run.{Run}
 use Rattle.change_set.specs.declared.cell_run.CellRun.{CellRun}
@@ -20,7 +20,7 @@ cell_positions cells = map (λ c. c.0) cells
 
 -- so many cells of a chunk's part in index order, from one on, that all have one content
 abbrev pub stretch_cells : Area → Pos → ℕ → BlockContent → List (Pos × BlockContent)
-stretch_cells a first count content = map (λ place. (position_of (chunk_part a first) place, content)) (range_with_len (place_in_chunk a first) count)
+stretch_cells a first count content = map (λ place. (position_of (chunk_box a first) place, content)) (range_with_len (place_in_chunk a first) count)
 
 -- a run of cells as one of changes, at which the content stays
 abbrev pub as_run : CellRun → Run

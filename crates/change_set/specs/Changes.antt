@@ -1,11 +1,11 @@
 -- Changes of a world as a list, and the runs that such a list is kept in.
-use Rattle.std.specs.Prelude.{◌≡◌, ℕ, ◌+◌, Bool, true, false, ◌&&◌, not, if◌then◌else◌, List, [], ◌∷◌, ◌++◌, map, nat_le}
-use Rattle.std.specs.List.{range_with_len, flat_map}
+use Rattle.std.specs.Prelude.{◌≡◌, ℕ, ◌+◌, ◌<◌, ◌≤◌, Bool, true, false, ◌&&◌, not, if◌then◌else◌, List, [], ◌∷◌, ◌++◌, map, take, drop, nat_le}
+use Rattle.std.specs.List.{All, range_with_len, flat_map}
 use Rattle.edit_terms.specs.declared.pos.Pos.{Pos}
-use Rattle.edit_terms.specs.Area.{Area, holds, index_of, position_of}
+use Rattle.edit_terms.specs.Area.{Area, holds, index_of, position_of, volume}
 use Rattle.edit_terms.specs.World.{BlockContent}
 use Rattle.edit_terms.specs.Same.{same_content}
-use Rattle.change_set.specs.Chunk.{chunk_part, place_in_chunk, is_next_cell}
+use Rattle.edit_terms.specs.Chunk.{chunk_box, place_in_chunk, is_next_cell}
 use Rattle.change_set.specs.declared.run.Run.{Run}
 use Rattle.change_set.specs.declared.proposed.Proposed.{Proposed}
 
@@ -46,7 +46,7 @@ kept_change c = if same_content c.before c.after then [] else c ∷ []
 -- so many cells of a chunk's part in index order, from one on, that all change from one content to another
 abbrev pub stretch : Area → Pos → ℕ → BlockContent → BlockContent → List Proposed
 stretch a first count before after =
-    map (λ place. record { at = position_of (chunk_part a first) place; before = before; after = after })
+    map (λ place. record { at = position_of (chunk_box a first) place; before = before; after = after })
     (range_with_len (place_in_chunk a first) count)
 
 -- the same where the contents differ; equal contents are no change
@@ -82,7 +82,17 @@ goes_on_behind a [] d = false
 goes_on_behind a (c ∷ []) d = goes_on a c d
 goes_on_behind a (c ∷ e ∷ cs) d = goes_on_behind a (e ∷ cs) d
 
--- The runs of a list: they begin where its breaks stand, and their changes one after another are the list.
+-- The run is one of a list: it has cells, they are of one chunk's part from a position of the box on, and its changes
+-- are those that stand in the list from its place on.
+pub record IsRunOf (seen : ChangeList) (run : Run) : Type 0 where
+  pub some : 0 < run.length
+  pub held : holds seen.area run.first ≡ true
+  pub fits : place_in_chunk seen.area run.first + run.length ≤ volume (chunk_box seen.area run.first)
+  pub changes : take run.length (drop run.start seen.list) ≡ run_changes seen.area run
+
+-- The runs of a list: they begin where its breaks stand, their changes one after another are the list, and each of them
+-- is a run of it.
 pub record AreRunsOf (seen : ChangeList) (runs : List Run) : Type 0 where
   pub whole : changes_of seen.area runs ≡ seen.list
   pub starts : map (λ run. run.start) runs ≡ breaks seen.area seen.list
+  pub each : All (IsRunOf seen) runs

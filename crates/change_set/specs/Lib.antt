@@ -1,4 +1,3 @@
-pub mod Chunk
 pub mod Changes
 pub mod Runs
 pub mod Kept

@@ -1,9 +1,10 @@
 -- What holds of the runs that changes are kept in.
-use Rattle.std.specs.Prelude.{◌≡◌, ℕ, ◌+◌, ◌<◌, ◌≤◌, Bool, true, ◌&&◌, ◌==◌, List, [], ◌∷◌, map, length, Some, slice_get}
+use Rattle.std.specs.Prelude.{◌≡◌, ℕ, ◌+◌, ◌-◌, ◌<◌, ◌≤◌, Bool, true, ◌&&◌, ◌==◌, List, [], ◌∷◌, map, length, Some, slice_get}
 use Rattle.std.specs.List.{list_all}
 use Rattle.edit_terms.specs.declared.pos.Pos.{Pos}
+use Rattle.edit_terms.specs.declared.stretch.Stretch.{Stretch}
 use Rattle.edit_terms.specs.Area.{Area, holds, index_of, position_of, volume}
-use Rattle.change_set.specs.Chunk.{chunk_part, place_in_chunk}
+use Rattle.edit_terms.specs.Chunk.{chunk_box, place_in_chunk}
 use Rattle.change_set.specs.Changes.{changes_of, positions, rises, breaks, is_change}
 use Rattle.change_set.specs.declared.run.Run.{Run}
 use Rattle.change_set.specs.declared.proposed.Proposed.{Proposed}
@@ -13,7 +14,7 @@ pub record IsRun (a : Area) (start : ℕ) (run : Run) : Type 0 where
   pub start_is : run.start ≡ start
   pub some : 0 < run.length
   pub held : holds a run.first ≡ true
-  pub fits : place_in_chunk a run.first + run.length ≤ volume (chunk_part a run.first)
+  pub fits : place_in_chunk a run.first + run.length ≤ volume (chunk_box a run.first)
 
 -- each of the runs is one, and they start one behind the other from a place on
 abbrev pub AreRunsFrom : Area → ℕ → List Run → Type 0
@@ -34,7 +35,7 @@ pub record AreChangesKept (a : Area) (runs : List Run) (count : ℕ) : Type 0 wh
 
 -- the position is the next cell behind so many cells of a chunk's part
 abbrev pub follows : Area → Pos → ℕ → Pos → Bool
-follows a first count p = holds (chunk_part a first) p && (index_of (chunk_part a first) p == place_in_chunk a first + count)
+follows a first count p = holds (chunk_box a first) p && (index_of (chunk_box a first) p == place_in_chunk a first + count)
 
 -- the runs with so many more cells in the last one
 abbrev pub with_last_longer : List Run → ℕ → List Run
@@ -44,13 +45,17 @@ with_last_longer (run ∷ next ∷ runs) more = run ∷ with_last_longer (next �
 
 -- the change of a run's cell
 abbrev pub cell_of_run : Area → Run → ℕ → Proposed
-cell_of_run a run j = record { at = position_of (chunk_part a run.first) (place_in_chunk a run.first + j); before = run.before; after = run.after }
+cell_of_run a run j = record { at = position_of (chunk_box a run.first) (place_in_chunk a run.first + j); before = run.before; after = run.after }
 
 -- The run has the change at a place of the list, and its other changes stand before and behind that.
 pub record IsRunAt (a : Area) (list : List Proposed) (i : ℕ) (run : Run) : Type 0 where
   pub from : run.start ≤ i
   pub to : i < run.start + run.length
   pub held : holds a run.first ≡ true
-  pub fits : place_in_chunk a run.first + run.length ≤ volume (chunk_part a run.first)
+  pub fits : place_in_chunk a run.first + run.length ≤ volume (chunk_box a run.first)
   pub within : run.start + run.length ≤ length list
   pub each : (j : ℕ) → j < run.length → slice_get list (run.start + j) ≡ Some (cell_of_run a run j)
+
+-- what is left of so many cells of a chunk's part, from the first one on, behind some of them
+abbrev pub rest_of : Area → Pos → ℕ → ℕ → Stretch
+rest_of a first count further = record { part = chunk_box a first; start = place_in_chunk a first + further; count = count - further }

@@ -1,7 +1,7 @@
 //! The builder of changes.
 ghost use Rattle.std.specs.Prelude.{◌≡◌, ◌+◌, ◌≤◌, [], ◌∷◌, ◌++◌, true, OnOk, OnErr};
 ghost use Rattle.edit_terms.specs.Area.{volume};
-ghost use Rattle.change_set.specs.Chunk.{chunk_part, place_in_chunk};
+ghost use Rattle.edit_terms.specs.Chunk.{chunk_box, place_in_chunk};
 ghost use Rattle.change_set.specs.Changes.{positions, rises, kept_stretch, kept_change};
 
 use crate::changes::Changes;
@@ -64,7 +64,7 @@ impl ChangeBuilder {
         after: &Content,
     ) -> Result<(), Memory>
         requires rising { rises self.old.area (positions self.old.list ++ first.now ∷ []) ≡ true }
-        requires fits { place_in_chunk self.old.area first.now + count ≤ volume (chunk_part self.old.area first.now) }
+        requires fits { place_in_chunk self.old.area first.now + count ≤ volume (chunk_box self.old.area first.now) }
         ensures area { self.new.area ≡ self.old.area }
         ensures added { OnOk result (self.new.list ≡ self.old.list ++ kept_stretch self.old.area first.now count before.now after.now) }
         ensures unchanged { OnErr result (self.new ≡ self.old) }

@@ -2,16 +2,16 @@
 ghost use Rattle.std.specs.Prelude.{◌≡◌, ◌≢◌, ◌+◌, ◌-◌, ◌^◌, ◌<◌, ◌≤◌, ℕ, [], ◌∷◌, ◌++◌, true, map, length, Some, slice_get, MatchOption, IfSome, OnOk, OnErr};
 ghost use Rattle.edit_terms.specs.Area.{volume};
 ghost use Rattle.edit_terms.specs.CellList.{position_in};
-ghost use Rattle.change_set.specs.Chunk.{chunk_part, place_in_chunk};
+ghost use Rattle.edit_terms.specs.Chunk.{chunk_box, place_in_chunk};
 ghost use Rattle.change_set.specs.Changes.{rises, changes_of, goes_on_behind};
 ghost use Rattle.change_set.specs.Runs.{AreRunsFrom, IsRunAt, with_last_longer};
 ghost use Rattle.change_set.specs.Cells.{cell_positions, stretch_cells, as_run};
 
 use crate::cell_run::CellRun;
 use crate::grow::follows;
-use crate::read::{entity_of, position_in_run, state_of};
+use crate::read::{entity_of, position_in_run, rest_of, state_of};
 use crate::search::find_in_runs;
-use edit_terms::{BlockState, CellList, Content, Entity, Pos, WorldBox};
+use edit_terms::{BlockState, CellList, Content, Entity, Pos, Stretch, WorldBox};
 use memory::Memory;
 use std::alloc::Global;
 use std::marker::Model;
@@ -61,7 +61,7 @@ impl CellRuns {
         content: &Content,
     ) -> Result<(), Memory>
         requires rising { rises self.old.area (cell_positions self.old.cells ++ first.now ∷ []) ≡ true }
-        requires fits { place_in_chunk self.old.area first.now + count ≤ volume (chunk_part self.old.area first.now) }
+        requires fits { place_in_chunk self.old.area first.now + count ≤ volume (chunk_box self.old.area first.now) }
         ensures area { self.new.area ≡ self.old.area }
         ensures added { OnOk result (self.new.cells ≡ self.old.cells ++ stretch_cells self.old.area first.now count content.now) }
         ensures unchanged { OnErr result (self.new ≡ self.old) }
@@ -161,5 +161,10 @@ impl CellList for CellRuns {
     fn reach(&self, i: u32) -> u32 {
         let run = run_at(&self.area, &self.runs, i);
         run.length - (i - run.start)
+    }
+
+    fn stretch(&self, i: u32) -> Option<Stretch> {
+        let run = run_at(&self.area, &self.runs, i);
+        Some(rest_of(&self.area, &run.first, run.length, i - run.start))
     }
 }

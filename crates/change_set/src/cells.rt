@@ -3,8 +3,8 @@ ghost use Rattle.std.specs.Prelude.{◌≡◌};
 ghost use Rattle.change_set.specs.Changes.{ChangeList};
 
 use crate::changes::Changes;
-use crate::read::{entity_of, position_in_run, state_of};
-use edit_terms::{BlockState, CellList, Entity, Pos};
+use crate::read::{entity_of, position_in_run, rest_of, state_of};
+use edit_terms::{BlockState, CellList, Entity, Pos, Stretch};
 use std::sync::Arc;
 
 /// Changes by their contents before.
@@ -54,6 +54,11 @@ impl CellList for Changes {
         let run = self.run_of(i);
         run.length - (i - run.start)
     }
+
+    fn stretch(&self, i: u32) -> Option<Stretch> {
+        let run = self.run_of(i);
+        Some(rest_of(self.area(), &run.first, run.length, i - run.start))
+    }
 }
 
 impl CellList for Befores<'_> {
@@ -87,5 +92,11 @@ impl CellList for Befores<'_> {
     fn reach(&self, i: u32) -> u32 {
         let run = self.changes.run_of(i);
         run.length - (i - run.start)
+    }
+
+    fn stretch(&self, i: u32) -> Option<Stretch> {
+        let run = self.changes.run_of(i);
+        let area = self.changes.area();
+        Some(rest_of(area, &run.first, run.length, i - run.start))
     }
 }

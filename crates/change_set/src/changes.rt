@@ -2,7 +2,7 @@
 ghost use Rattle.std.specs.Prelude.{◌≡◌, ◌+◌, ◌<◌, ◌≤◌, [], ◌∷◌, ◌++◌, true, length, OnOk, OnErr};
 ghost use Rattle.std.specs.List.{list_all};
 ghost use Rattle.change_set.specs.Changes.{rises, positions, is_change, kept_stretch, AreRunsOf};
-ghost use Rattle.change_set.specs.Chunk.{chunk_part, place_in_chunk};
+ghost use Rattle.edit_terms.specs.Chunk.{chunk_box, place_in_chunk};
 ghost use Rattle.change_set.specs.Runs.{IsRunAt};
 ghost use Rattle.edit_terms.specs.Area.{volume};
 
@@ -46,7 +46,8 @@ impl Changes {
 
     /// The runs of the changes in order: a break stands at the first change, at each one whose position is
     /// not the next cell of its chunk behind the one before, and at each one whose contents before and after
-    /// are not those of the one before; a run goes from one break to the next.
+    /// are not those of the one before; a run goes from one break to the next. Each has cells of one chunk, and
+    /// its changes stand in the list from its place on.
     pub fn runs(&self) -> &[Run]
         ensures { AreRunsOf self.now result.now }
     {
@@ -93,7 +94,7 @@ impl Changes {
         after: &Content,
     ) -> Result<(), Memory>
         requires rising { rises self.old.area (positions self.old.list ++ first.now ∷ []) ≡ true }
-        requires fits { place_in_chunk self.old.area first.now + count ≤ volume (chunk_part self.old.area first.now) }
+        requires fits { place_in_chunk self.old.area first.now + count ≤ volume (chunk_box self.old.area first.now) }
         ensures area { self.new.area ≡ self.old.area }
         ensures added { OnOk result (self.new.list ≡ self.old.list ++ kept_stretch self.old.area first.now count before.now after.now) }
         ensures unchanged { OnErr result (self.new ≡ self.old) }

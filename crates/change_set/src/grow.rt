@@ -1,21 +1,20 @@
 //! What is asked of runs, and how the last of them grows.
 ghost use Rattle.std.specs.Prelude.{◌≡◌, ◌+◌, ◌-◌, ◌^◌, ◌<◌, ◌≤◌, true, length, Some, slice_get, IfSome};
 ghost use Rattle.edit_terms.specs.Area.{holds, volume};
-ghost use Rattle.change_set.specs.Chunk.{chunk_part, place_in_chunk};
+ghost use Rattle.edit_terms.specs.Chunk.{chunk_box, place_in_chunk};
 ghost use Rattle.change_set.specs.Runs.{follows, with_last_longer, AreRunsFrom};
 ghost use Rattle.change_set.specs.Changes.{changes_of, goes_on_behind};
 
-use crate::chunk::chunk_part;
 use crate::run::Run;
-use edit_terms::{Content, Pos, WorldBox};
+use edit_terms::{Content, Pos, WorldBox, chunk_box};
 
 /// Whether the position is the next cell behind so many cells of a chunk, from the first one on.
 pub(crate) fn follows(area: &WorldBox, first: &Pos, length: u32, p: &Pos) -> bool
     requires held { holds area.now first.now ≡ true }
-    requires fits { place_in_chunk area.now first.now + length ≤ volume (chunk_part area.now first.now) }
+    requires fits { place_in_chunk area.now first.now + length ≤ volume (chunk_box area.now first.now) }
     ensures { result ≡ follows area.now first.now length p.now }
 {
-    let part = chunk_part(area, first);
+    let part = chunk_box(area, first);
     let Some(from) = part.index_of(*first) else {
         return false;
     };

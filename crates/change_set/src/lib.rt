@@ -11,7 +11,6 @@ mod cell_run;
 mod cell_runs;
 mod cells;
 mod changes;
-mod chunk;
 mod grow;
 mod kept;
 mod part;

@@ -5,7 +5,7 @@ ghost use Rattle.change_set.specs.Sorted.{AreInOrder};
 
 use crate::cell_runs::CellRuns;
 use crate::sorted_cells::SortedCells;
-use edit_terms::{BlockState, CellList, Content, Entity, Pos, Source};
+use edit_terms::{BlockState, CellList, Content, Entity, Pos, Source, Stretch};
 use std::marker::Model;
 use std::sync::Arc;
 
@@ -128,6 +128,13 @@ impl CellList for Part {
         match &self.form {
             Form::Sorted(cells) => cells.reach(i),
             Form::Runs(runs) => runs.reach(i),
+        }
+    }
+
+    fn stretch(&self, i: u32) -> Option<Stretch> {
+        match &self.form {
+            Form::Sorted(cells) => cells.stretch(i),
+            Form::Runs(runs) => runs.stretch(i),
         }
     }
 }

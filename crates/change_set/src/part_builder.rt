@@ -1,7 +1,7 @@
 //! The builder of a part.
 ghost use Rattle.std.specs.Prelude.{◌≡◌, ◌+◌, ◌≤◌, [], ◌∷◌, ◌++◌, true, OnOk, OnErr};
 ghost use Rattle.edit_terms.specs.Area.{volume};
-ghost use Rattle.change_set.specs.Chunk.{chunk_part, place_in_chunk};
+ghost use Rattle.edit_terms.specs.Chunk.{chunk_box, place_in_chunk};
 ghost use Rattle.change_set.specs.Changes.{rises};
 ghost use Rattle.change_set.specs.Cells.{cell_positions, stretch_cells};
 ghost use Rattle.change_set.specs.Part.{with_cells};
@@ -64,7 +64,7 @@ impl PartBuilder {
     /// After `Memory` the cells are as they were.
     pub fn extend(&mut self, first: &Pos, count: u32, content: &Content) -> Result<(), Memory>
         requires rising { rises self.old.area (cell_positions self.old.part.cells ++ first.now ∷ []) ≡ true }
-        requires fits { place_in_chunk self.old.area first.now + count ≤ volume (chunk_part self.old.area first.now) }
+        requires fits { place_in_chunk self.old.area first.now + count ≤ volume (chunk_box self.old.area first.now) }
         ensures area { self.new.area ≡ self.old.area }
         ensures added { OnOk result (self.new.part ≡ with_cells self.old.part (stretch_cells self.old.area first.now count content.now)) }
         ensures unchanged { OnErr result (self.new ≡ self.old) }

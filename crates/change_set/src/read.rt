@@ -2,15 +2,14 @@
 ghost use Rattle.std.specs.Prelude.{◌≡◌, true, ◌+◌, ◌-◌, ◌<◌, ◌≤◌, length, Some, slice_get, option_map};
 ghost use Rattle.change_set.specs.declared.run.Run.{Run};
 ghost use Rattle.change_set.specs.Changes.{changes_of};
-ghost use Rattle.change_set.specs.Runs.{AreRunsFrom, IsRunAt};
+ghost use Rattle.change_set.specs.Runs.{AreRunsFrom, IsRunAt, rest_of};
 ghost use Rattle.std.specs.Arc.{arc_value};
 ghost use Rattle.std.specs.Option.{option_copied};
 ghost use Rattle.edit_terms.specs.Area.{holds, position_of, volume};
-ghost use Rattle.change_set.specs.Chunk.{chunk_part, place_in_chunk};
+ghost use Rattle.edit_terms.specs.Chunk.{chunk_box, place_in_chunk};
 
-use crate::chunk::chunk_part;
 use crate::run::Run;
-use edit_terms::{BlockState, Content, Entity, Pos, WorldBox};
+use edit_terms::{BlockState, Content, Entity, Pos, Stretch, WorldBox, chunk_box};
 use std::sync::Arc;
 
 /// The run that has the change at a place of the list.
@@ -26,16 +25,34 @@ pub(crate) fn run_at<'a>(area: &WorldBox, runs: &'a [Run], i: u32) -> &'a Run
 /// The position of a cell of a stretch of a chunk's cells, by the first one and how far it is behind that.
 pub(crate) fn position_in_run(area: &WorldBox, first: &Pos, further: u32) -> Pos
     requires held { holds area.now first.now ≡ true }
-    requires within { place_in_chunk area.now first.now + further < volume (chunk_part area.now first.now) }
-    ensures { result ≡ position_of (chunk_part area.now first.now) (place_in_chunk area.now first.now + further) }
+    requires within { place_in_chunk area.now first.now + further < volume (chunk_box area.now first.now) }
+    ensures { result ≡ position_of (chunk_box area.now first.now) (place_in_chunk area.now first.now + further) }
 {
-    let part = chunk_part(area, first);
+    let part = chunk_box(area, first);
     let Some(place) = part.index_of(*first) else {
         unreachable!();
     };
     match part.position(place + further) {
         Some(position) => position,
         None => unreachable!(),
+    }
+}
+
+/// What is left of a stretch of a chunk's cells behind some of them, by the first one and how many they are.
+pub(crate) fn rest_of(area: &WorldBox, first: &Pos, count: u32, further: u32) -> Stretch
+    requires held { holds area.now first.now ≡ true }
+    requires fits { place_in_chunk area.now first.now + count ≤ volume (chunk_box area.now first.now) }
+    requires within { further < count }
+    ensures { result ≡ rest_of area.now first.now count further }
+{
+    let part = chunk_box(area, first);
+    let Some(place) = part.index_of(*first) else {
+        unreachable!();
+    };
+    Stretch {
+        part,
+        start: place + further,
+        count: count - further,
     }
 }
 

@@ -3,13 +3,12 @@ ghost use Rattle.std.specs.Prelude.{◌≡◌, ◌≢◌, ◌+◌, ◌<◌, ◌�
 ghost use Rattle.edit_terms.specs.Area.{holds, index_of, position_of, volume};
 ghost use Rattle.edit_terms.specs.CellList.{position_in};
 ghost use Rattle.change_set.specs.Changes.{rises, positions, changes_of};
-ghost use Rattle.change_set.specs.Chunk.{chunk_part, place_in_chunk};
+ghost use Rattle.edit_terms.specs.Chunk.{chunk_box, place_in_chunk};
 ghost use Rattle.change_set.specs.Runs.{AreRunsFrom};
 ghost use Rattle.change_set.specs.Cells.{as_run, cells_of, place_or_end, StartsBehind, IsLastFrom};
 
 use crate::cell_run::CellRun;
-use crate::chunk::chunk_part;
-use edit_terms::{Pos, WorldBox};
+use edit_terms::{Pos, WorldBox, chunk_box};
 
 /// The place of a cell of this position in the list of the runs' cells. None exactly where no cell has it.
 pub(crate) fn find_in_runs(area: &WorldBox, runs: &[CellRun], p: &Pos) -> Option<u32>
@@ -59,14 +58,14 @@ fn place_or_end(area: &WorldBox, p: &Pos) -> u32
 /// stretch has the position.
 fn further_in(area: &WorldBox, first: &Pos, length: u32, p: &Pos) -> Option<u32>
     requires held { holds area.now first.now ≡ true }
-    requires fits { place_in_chunk area.now first.now + length ≤ volume (chunk_part area.now first.now) }
+    requires fits { place_in_chunk area.now first.now + length ≤ volume (chunk_box area.now first.now) }
     ensures value { MatchOption result
-        ((j : ℕ) → j < length → position_of (chunk_part area.now first.now) (place_in_chunk area.now first.now + j) ≢ p.now)
-        (λ j. position_of (chunk_part area.now first.now) (place_in_chunk area.now first.now + j) ≡ p.now) }
+        ((j : ℕ) → j < length → position_of (chunk_box area.now first.now) (place_in_chunk area.now first.now + j) ≢ p.now)
+        (λ j. position_of (chunk_box area.now first.now) (place_in_chunk area.now first.now + j) ≡ p.now) }
     ensures below { IfSome result (λ j. j < length) }
 {
     area.well_formed();
-    let part = chunk_part(area, first);
+    let part = chunk_box(area, first);
     let Some(from) = part.index_of(*first) else {
         return None;
     };

@@ -4,7 +4,7 @@ ghost use Rattle.edit_terms.specs.CellList.{position_in};
 ghost use Rattle.change_set.specs.Sorted.{AreInOrder};
 
 use crate::read::{entity_of, state_of};
-use edit_terms::{BlockState, CellList, Content, Entity, Pos};
+use edit_terms::{BlockState, CellList, Content, Entity, Pos, Stretch};
 use std::marker::Model;
 use std::sync::Arc;
 
@@ -86,5 +86,9 @@ impl CellList for SortedCells {
 
     fn reach(&self, _i: u32) -> u32 {
         1
+    }
+
+    fn stretch(&self, _i: u32) -> Option<Stretch> {
+        None
     }
 }

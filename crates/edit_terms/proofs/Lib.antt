@@ -1,5 +1,6 @@
 pub mod AreaLemmas
 pub mod ColumnLemmas
+pub mod ChunkLemmas
 pub mod WorldLemmas
 pub mod PatternLemmas
 pub mod Examples

@@ -8,6 +8,7 @@ pub mod Neighbour
 pub mod CellList
 pub mod Region
 pub mod Frame
+pub mod Chunk
 pub mod Draw
 pub mod Transform
 pub mod Clipboard

@@ -1,12 +1,13 @@
-ghost use Rattle.std.specs.Prelude.{◌≡◌, ◌+◌, ◌<◌, ◌≤◌, List, length, Some, option_map, option_copied};
+ghost use Rattle.std.specs.Prelude.{◌≡◌, ◌+◌, ◌<◌, ◌≤◌, List, length, Some, option_map, IfSome, option_copied};
 ghost use Rattle.std.specs.Arc.{arc_value};
 ghost use Rattle.edit_terms.specs.declared.pos.Pos.{Pos};
 ghost use Rattle.edit_terms.specs.World.{BlockContent};
-ghost use Rattle.edit_terms.specs.CellList.{position_in, state_in, entity_in, IsSameFrom};
+ghost use Rattle.edit_terms.specs.CellList.{position_in, state_in, entity_in, IsSameFrom, IsStretch};
 
 use crate::block_state::BlockState;
 use crate::entity::Entity;
 use crate::pos::Pos;
+use crate::stretch::Stretch;
 use std::sync::Arc;
 
 /// A list of positions, each with the content that stands there.
@@ -39,4 +40,11 @@ pub trait CellList {
         ensures some { 0 < result }
         ensures within { i + result ≤ length (cells self.now) }
         ensures same { IsSameFrom (cells self.now) i result };
+
+    /// What the list goes on with from a place on, where it keeps that as a stretch of one content: its
+    /// cells from there are the blocks of the stretch, one by one. None where it keeps none there, and its
+    /// cells are then read one by one.
+    fn stretch(&self, i: u32) -> Option<Stretch>
+        requires { i < length (cells self.now) }
+        ensures { IfSome result (IsStretch (cells self.now) i) };
 }

@@ -1,15 +1,14 @@
 -- What a world's box has in common with another box is a world's box, where it isn't empty.
-use Rattle.std.proofs.Common.{◌≡◌, ℕ, ◌*◌, ◌<◌, ◌≤◌, ◌⊎◌, inl, inr, Bool, true, false, ◌||◌, refl, ℤ, pos, negsuc, ◌+ℤ◌, ◌-ℤ◌, ◌≤ℤ◌, ◌<ℤ◌, sym, ◌∙◌, ap, subst, arith}
-use Rattle.std.specs.Prelude.{nat_le, nat_abs, Option, None, Some, MatchOption}
-use Rattle.std.specs.Int.{int_min, int_max}
+use Rattle.std.proofs.Common.{◌≡◌, ℕ, ◌*◌, ◌<◌, ◌≤◌, ◌⊎◌, inl, inr, Bool, true, false, ◌||◌, refl, ℤ, pos, negsuc, ◌+ℤ◌, ◌≤ℤ◌, sym, ◌∙◌, ap, subst, arith}
+use Rattle.std.specs.Prelude.{nat_le, Option, None, Some, MatchOption}
+use Rattle.std.specs.Int.{int_max}
 use Rattle.std.specs.Cmp.Derive.{both_true}
 use Rattle.std.proofs.lemmas.Bool.Decides.{nat_tests}
 use Rattle.std.proofs.lemmas.Int.{ints}
 use Rattle.std.proofs.Math.Nat.{mul-le-mul}
 use Rattle.edit_terms.specs.Area.{Area, volume, is_size, is_within, is_part, is_world_box}
-use Rattle.edit_terms.specs.Frame.{count_up_to, common_count, common_box}
+use Rattle.edit_terms.specs.Frame.{common_count, common_box}
 use Rattle.edit_terms.proofs.AreaLemmas.{limits, on_map}
-use Rattle.region_shapes.specs.declared.interval.Interval.{Interval}
 use Rattle.region_shapes.specs.declared.extent.Extent.{Extent}
 use Rattle.region_shapes.specs.Interval.{is_empty, size}
 use Rattle.region_shapes.proofs.ExtentLemmas.{size_of_empty}

@@ -7,3 +7,4 @@ mod EndLemmas
 mod BoxLemmas
 mod BoundsLemmas
 mod ChunkLemmas
+pub mod RiseLemmas

@@ -1,10 +1,10 @@
 -- Spans: runs of positions along x, and what the spans of a region in a box are.
-use Rattle.std.specs.Prelude.{◌≡◌, ℕ, ◌<◌, ◌&&◌, Bool, false, List, map, pos, ◌+ℤ◌}
+use Rattle.std.specs.Prelude.{◌≡◌, ℕ, ◌+◌, ◌<◌, ◌≤◌, ◌&&◌, Bool, true, false, List, [], ◌∷◌, map, pos, ◌+ℤ◌}
 use Rattle.std.specs.List.{range_with_len, flat_map, filter}
 use Rattle.edit_terms.specs.declared.pos.Pos.{Pos}
 use Rattle.edit_terms.specs.declared.direction.Direction.TheVariants.{West}
 use Rattle.edit_terms.specs.declared.region.Region.{Region}
-use Rattle.edit_terms.specs.Area.{Area, holds, position_of, volume}
+use Rattle.edit_terms.specs.Area.{Area, holds, offset, index_of, position_of, volume}
 use Rattle.edit_terms.specs.Neighbour.{neighbour}
 use Rattle.edit_terms.specs.Region.{is_inside}
 use Rattle.region_shapes.specs.declared.span.Span.{Span}
@@ -38,3 +38,15 @@ pub record IsMaximal (region : Region) (a : Area) (s : Span) : Type 0 where
   pub some : 0 < s.count
   pub west : is_filled region a (neighbour West s.least) ≡ false
   pub east : is_filled region a (along s.least s.count) ≡ false
+
+-- The span lies in one row of the box, and doesn't begin before a place in the box's index order.
+pub record IsSpanFrom (a : Area) (least : ℕ) (s : Span) : Type 0 where
+  pub held : holds a s.least ≡ true
+  pub room : offset a.least.x s.least.x + s.count ≤ a.width
+  pub from : least ≤ index_of a s.least
+
+-- The spans rise in the box's index order from a place on: each lies in one row of the box, and doesn't begin before
+-- the place at which the one before it ends.
+abbrev pub RiseFrom : Area → ℕ → List Span → Type 0
+RiseFrom a least [] = Unit {0}
+RiseFrom a least (s ∷ spans) = IsSpanFrom a least s × RiseFrom a (index_of a s.least + s.count) spans

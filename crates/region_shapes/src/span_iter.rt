@@ -1,7 +1,7 @@
 ghost use Rattle.std.specs.Prelude.{◌≡◌, ◌*◌};
 ghost use Rattle.std.specs.Iterator.{YieldsFirst, item_count};
 ghost use Rattle.std.specs.List.{All};
-ghost use Rattle.region_shapes.specs.Spans.{all_positions, region_positions, IsMaximal};
+ghost use Rattle.region_shapes.specs.Spans.{all_positions, region_positions, IsMaximal, RiseFrom};
 
 use crate::row_spans::first_from;
 use crate::span::Span;
@@ -32,14 +32,17 @@ impl Model for SpanIter {
 }
 
 /// The spans of a region in a box. Their positions, span by span, are the region's positions in the box in
-/// index order, and no span could be longer. The work grows with the rows of the box, not with its blocks: for
-/// a small region in a large box ask for the spans in its `bounds`.
-#[tactic(auto, using(crate::proofs::BoxLemmas::spans_left_positions, crate::proofs::BoxLemmas::spans_left_maximal))]
+/// index order, and no span could be longer. So the spans rise: each begins behind the end of the one before it.
+/// The work grows with the rows of the box, not with its blocks: for a small region in a large box ask for the
+/// spans in its `bounds`.
+#[tactic(auto, using(crate::proofs::BoxLemmas::spans_left_positions, crate::proofs::BoxLemmas::spans_left_maximal, crate::proofs::RiseLemmas::spans_left_rise))]
 pub fn rows(region: &Region, area: &WorldBox) -> SpanIter
     ensures positions { all_positions result ≡ region_positions region.now area.now }
     ensures maximal { All (IsMaximal region.now area.now) result }
+    ensures rising { RiseFrom area.now 0 result }
 {
     is_bounded(region);
+    area.well_formed();
     SpanIter {
         region: *region,
         area: *area,

@@ -1,7 +1,7 @@
 //! A list of cells is read through its bound.
 
 use crate::terms::content;
-use edit_terms::{BlockState, CellList, Content, Entity, Pos};
+use edit_terms::{BlockState, CellList, Content, Entity, Pos, Stretch};
 use std::alloc::Global;
 use std::sync::Arc;
 
@@ -39,6 +39,10 @@ impl CellList for Single {
 
     fn reach(&self, _i: u32) -> u32 {
         1
+    }
+
+    fn stretch(&self, _i: u32) -> Option<Stretch> {
+        None
     }
 }
 

@@ -1,4 +1,4 @@
-use Rattle.std.proofs.Common.{◌≡◌, ℕ, ◌<◌, sym, ◌∙◌, ap, subst}
+use Rattle.std.proofs.Common.{◌≡◌, ◌<◌, sym, ◌∙◌, ap, subst}
 use Rattle.edit_terms.specs.Area.{Area}
 use Rattle.edit_terms.specs.Frame.{common_box, frame_of}
 use Rattle.region_shapes.specs.declared.extent.Extent.{Extent}

@@ -1,6 +1,6 @@
 use Rattle.std.proofs.Common.{◌+◌, ◌-◌, Some, sym, ap, ◌∙◌, arith}
 use Rattle.edit_terms.specs.Area.{Area, position_of}
-use Rattle.change_set.specs.Chunk.{chunk_part, place_in_chunk}
+use Rattle.edit_terms.specs.Chunk.{chunk_box, place_in_chunk}
 use Rattle.change_set.specs.Changes.{befores}
 use Rattle.change_set.proofs.ReadLemmas.{before_read, position_there}
 use Rattle.change_set.proofs.cells.BeforesCellList.at.Goals as goal
@@ -9,4 +9,4 @@ pub returns : goal.returns
 returns c =
     let there = before_read c.args.self.now.changes.now.area c.args.self.now.changes.now.list c.args.i c.run_of-run.result.now c.run_of-run.ensures c.args.i (omega arith) c.run_of-run.ensures.to in
     position_there (befores c.args.self.now.changes.now.list) c.args.i _ c.run_of-run.result.now.before there
-    ∙ ap Some (sym (c.position_in_run.ensures ∙ ap (λ (a : Area). position_of (chunk_part a c.run_of-run.result.now.first) (place_in_chunk a c.run_of-run.result.now.first + (c.args.i - c.run_of-run.result.now.start))) c.area.ensures))
+    ∙ ap Some (sym (c.position_in_run.ensures ∙ ap (λ (a : Area). position_of (chunk_box a c.run_of-run.result.now.first) (place_in_chunk a c.run_of-run.result.now.first + (c.args.i - c.run_of-run.result.now.start))) c.area.ensures))

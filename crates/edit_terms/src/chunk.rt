@@ -2,15 +2,17 @@
 ghost use Rattle.std.specs.Prelude.{◌≡◌, ◌<◌, ◌≤◌, true, pos, ◌≤ℤ◌, ◌<ℤ◌, ◌+ℤ◌};
 ghost use Rattle.std.specs.Int.{int_max, int_min};
 ghost use Rattle.edit_terms.specs.Area.{is_from, holds, volume};
-ghost use Rattle.change_set.specs.Chunk.{column_start, first_in_column, count_in_column, chunk_part};
+ghost use Rattle.edit_terms.specs.Chunk.{column_start, first_in_column, count_in_column, chunk_box};
 
-use edit_terms::{Pos, WorldBox};
+use crate::pos::Pos;
+use crate::world_box::WorldBox;
 
-/// The blocks of the box that lie in the chunk of a position of it.
+/// The blocks of the box that lie in the chunk of a position of it: a box themselves, whose index order is the order
+/// that they have in the whole box. A chunk is a column of 16 by 16 blocks by x and z.
 #[tactic(auto, using(crate::proofs::ChunkLemmas::part_small))]
-pub(crate) fn chunk_part(area: &WorldBox, p: &Pos) -> WorldBox
+pub fn chunk_box(area: &WorldBox, p: &Pos) -> WorldBox
     requires { holds area.now p.now ≡ true }
-    ensures part { result ≡ chunk_part area.now p.now }
+    ensures part { result ≡ chunk_box area.now p.now }
     ensures small { volume result ≤ 33554432 }
 {
     area.well_formed();

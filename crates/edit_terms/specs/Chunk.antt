@@ -18,8 +18,8 @@ count_in_column low size v = common_count low size (column_start v) 16
 
 -- The blocks of the box that lie in the chunk of a position: a chunk is a column of 16 by 16 blocks by x and z.
 -- They are a box themselves, and its index order is the order that they have in the whole box.
-abbrev pub chunk_part : Area → Pos → Area
-chunk_part a p = record {
+abbrev pub chunk_box : Area → Pos → Area
+chunk_box a p = record {
   least = record { x = first_in_column a.least.x p.x; y = a.least.y; z = first_in_column a.least.z p.z };
   width = count_in_column a.least.x a.width p.x;
   height = a.height;
@@ -28,8 +28,8 @@ chunk_part a p = record {
 
 -- the place of a position in the list of its chunk's blocks
 abbrev pub place_in_chunk : Area → Pos → ℕ
-place_in_chunk a p = index_of (chunk_part a p) p
+place_in_chunk a p = index_of (chunk_box a p) p
 
 -- q is the next cell of p: the block of p's chunk that follows p in index order
 abbrev pub is_next_cell : Area → Pos → Pos → Bool
-is_next_cell a p q = holds (chunk_part a p) q && (index_of (chunk_part a p) q == place_in_chunk a p + 1)
+is_next_cell a p q = holds (chunk_box a p) q && (index_of (chunk_box a p) q == place_in_chunk a p + 1)

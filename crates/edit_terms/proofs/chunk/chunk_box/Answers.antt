@@ -1,9 +1,9 @@
 use Rattle.std.proofs.Common.{ℕ, ℤ, true, false, ◌≡◌, ◌∙◌, ap}
 use Rattle.edit_terms.specs.declared.pos.Pos.{Pos}
 use Rattle.edit_terms.specs.Area.{is_world_box}
-use Rattle.change_set.specs.Chunk.{first_in_column, count_in_column}
-use Rattle.change_set.proofs.ChunkLemmas.{parts_make_box}
-use Rattle.change_set.proofs.chunk.chunk_part.Goals as goal
+use Rattle.edit_terms.specs.Chunk.{first_in_column, count_in_column}
+use Rattle.edit_terms.proofs.ChunkLemmas.{parts_make_box}
+use Rattle.edit_terms.proofs.chunk.chunk_box.Goals as goal
 
 -- the count along x of an equal corner and width
 sized : {a b : Pos} {w v : ℕ} (x : ℤ) → a ≡ b → w ≡ v → count_in_column a.x w x ≡ count_in_column b.x v x

@@ -12,7 +12,7 @@ use Rattle.edit_terms.specs.declared.pos.Pos.{Pos}
 use Rattle.edit_terms.specs.Area.{Area, volume, is_from, is_within, holds, offset, index_of, is_size, is_sized, is_world_box, sixteenth}
 use Rattle.edit_terms.specs.Frame.{common_count, count_up_to}
 use Rattle.edit_terms.proofs.AreaLemmas.{and_both, limits, on_map, offset_of}
-use Rattle.change_set.specs.Chunk.{column_start, first_in_column, count_in_column, chunk_part}
+use Rattle.edit_terms.specs.Chunk.{column_start, first_in_column, count_in_column, chunk_box}
 
 -- a coordinate lies in its column
 pub record IsInColumn (v : ℤ) : Type 0 where
@@ -91,15 +91,15 @@ pub held_from : (a : Area) (p : Pos) → IsHeld a p → holds a p ≡ true
 held_from a p h = both_true (both_true h.x h.y) h.z
 
 -- a position of the box is one of its chunk's part
-pub part_held : (a : Area) (p : Pos) → holds a p ≡ true → holds (chunk_part a p) p ≡ true
+pub part_held : (a : Area) (p : Pos) → holds a p ≡ true → holds (chunk_box a p) p ≡ true
 part_held a p h =
     let parts = held_parts a p h in
-    held_from (chunk_part a p) p (record { x = (cut a.least.x a.width p.x parts.x).held; y = parts.y; z = (cut a.least.z a.length p.z parts.z).held })
+    held_from (chunk_box a p) p (record { x = (cut a.least.x a.width p.x parts.x).held; y = parts.y; z = (cut a.least.z a.length p.z parts.z).held })
 
 -- a position of a chunk's part is one of the box
-pub in_part : (a : Area) (p q : Pos) → holds (chunk_part a p) q ≡ true → holds a q ≡ true
+pub in_part : (a : Area) (p q : Pos) → holds (chunk_box a p) q ≡ true → holds a q ≡ true
 in_part a p q h =
-    let parts = held_parts (chunk_part a p) q h in
+    let parts = held_parts (chunk_box a p) q h in
     held_from a q (record { x = (in_cut a.least.x a.width (column_start p.x) q.x parts.x).held; y = parts.y; z = (in_cut a.least.z a.length (column_start p.z) q.z parts.z).held })
 
 -- a chunk's part by the two columns that it lies in
@@ -112,10 +112,10 @@ part_of_columns a sx sz = record {
 }
 
 -- each position of a chunk's part has the same part
-pub same_part : (a : Area) (p q : Pos) → holds (chunk_part a p) q ≡ true → chunk_part a q ≡ chunk_part a p
+pub same_part : (a : Area) (p q : Pos) → holds (chunk_box a p) q ≡ true → chunk_box a q ≡ chunk_box a p
 unfolding part_of_columns
 same_part a p q h =
-    let parts = held_parts (chunk_part a p) q h in
+    let parts = held_parts (chunk_box a p) q h in
     let ex = same_column a.least.x a.width p.x q.x parts.x in
     let ez = same_column a.least.z a.length p.z q.z parts.z in
     ap (λ (s : ℤ). part_of_columns a s (sixteenth q.z)) ex ∙ ap (λ (s : ℤ). part_of_columns a (sixteenth p.x) s) ez
@@ -133,7 +133,7 @@ volume_le w h l W L narrow short small =
     let all : w * h * l ≤ W * h * L = mul-le-mul layer short in
     grind arith
 
-pub part_is_world_box : (a : Area) (p : Pos) → is_world_box a ≡ true → holds a p ≡ true → is_world_box (chunk_part a p) ≡ true
+pub part_is_world_box : (a : Area) (p : Pos) → is_world_box a ≡ true → holds a p ≡ true → is_world_box (chunk_box a p) ≡ true
 part_is_world_box a p box h =
     let fits = limits a box in
     let map = on_map a box in
@@ -142,7 +142,7 @@ part_is_world_box a p box h =
     let z = cut a.least.z a.length p.z parts.z in
     let w = count_in_column a.least.x a.width p.x in
     let l = count_in_column a.least.z a.length p.z in
-    let sized : is_sized (chunk_part a p) ≡ true =
+    let sized : is_sized (chunk_box a p) ≡ true =
     both_true (both_true (both_true (size_true w x.some (omega (arith, x.few))) (size_true a.height fits.height fits.low)) (size_true l z.some (omega (arith, z.few))))
     (volume_le w a.height l a.width a.length x.narrow z.narrow fits.small) in
     let x_from : negsuc 33554431 ≤ℤ first_in_column a.least.x p.x = omega (arith, ints, map.x.from, x.from) in
@@ -154,8 +154,8 @@ part_is_world_box a p box h =
     (within_true (negsuc 2047) 4096 a.least.y a.height map.y.from map.y.to))
     (within_true (negsuc 33554431) 67108864 (first_in_column a.least.z p.z) l z_from z_to))
 
-pub part_small : (a : Area) (p : Pos) → is_world_box a ≡ true → holds a p ≡ true → volume (chunk_part a p) ≤ 33554432
-part_small a p box h = (limits (chunk_part a p) (part_is_world_box a p box h)).small
+pub part_small : (a : Area) (p : Pos) → is_world_box a ≡ true → holds a p ≡ true → volume (chunk_box a p) ≤ 33554432
+part_small a p box h = (limits (chunk_box a p) (part_is_world_box a p box h)).small
 
 -- what has the corner and the sizes of a chunk's part is the box of a world
 pub parts_make_box : (a : Area) (p least : Pos) (w h l : ℕ) → is_world_box a ≡ true → holds a p ≡ true
@@ -163,7 +163,7 @@ pub parts_make_box : (a : Area) (p least : Pos) (w h l : ℕ) → is_world_box a
     → w ≡ count_in_column a.least.x a.width p.x → h ≡ a.height → l ≡ count_in_column a.least.z a.length p.z
     → is_world_box (record { least = least; width = w; height = h; length = l }) ≡ true
 parts_make_box a p least w h l box held ex ey ez ew eh el =
-    let same : record { least = least; width = w; height = h; length = l } ≡ chunk_part a p =
+    let same : record { least = least; width = w; height = h; length = l } ≡ chunk_box a p =
     λ i. record { least = record { x = ex i; y = ey i; z = ez i }; width = ew i; height = eh i; length = el i } in
     ap is_world_box same ∙ part_is_world_box a p box held
 
@@ -213,10 +213,10 @@ place_by_offsets : (low first : ℤ) (size count : ℕ) (v : ℤ) → low ≤ℤ
 place_by_offsets low first size count v from to held = (grind (arith, ints), grind (arith, ints))
 
 -- the order of two blocks of a chunk's part is that of the box
-pub part_order : (a : Area) (p q r : Pos) → holds a p ≡ true → holds (chunk_part a p) q ≡ true → holds (chunk_part a p) r ≡ true
-    → index_of (chunk_part a p) q < index_of (chunk_part a p) r → index_of a q < index_of a r
+pub part_order : (a : Area) (p q r : Pos) → holds a p ≡ true → holds (chunk_box a p) q ≡ true → holds (chunk_box a p) r ≡ true
+    → index_of (chunk_box a p) q < index_of (chunk_box a p) r → index_of a q < index_of a r
 part_order a p q r h hq hr less =
-    let part = chunk_part a p in
+    let part = chunk_box a p in
     let parts = held_parts a p h in
     let x = cut a.least.x a.width p.x parts.x in
     let z = cut a.least.z a.length p.z parts.z in
