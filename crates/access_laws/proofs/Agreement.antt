@@ -22,13 +22,13 @@ use Rattle.edit_terms.proofs.RegionLemmas.{framed}
 use Rattle.run_terms.specs.Workload.{Workload}
 use Rattle.run_terms.specs.Order.{lines_of, step_of_command}
 use Rattle.run_terms.specs.Change.{Change}
-use Rattle.run_terms.specs.Effect.{Task, effect_at, world_with}
+use Rattle.run_terms.specs.Effect.{Task, latest_change, effect_at, world_with}
 use Rattle.run_terms.specs.Limits.{IsWithinLimits}
 use Rattle.run_terms.specs.Access.{chunks_of_boxes, boxes_read, boxes_read_by, chunks_read_by, chunks_written_by}
 use Rattle.access_laws.specs.Locality.{AgreeIn, AreWorldsOf, EffectsDependOnChunksAccessed, ClipboardsDependOnChunksRead}
 use Rattle.access_laws.proofs.Chunks.{among_chunks_of_boxes}
 use Rattle.access_laws.proofs.Writes.{HasPositions}
-use Rattle.access_laws.proofs.Depends.{JobDrawsAlike, draws_alike, content_same, effect_same}
+use Rattle.access_laws.proofs.Depends.{JobDrawsAlike, draws_alike, content_same, effect_same, sources_same}
 use Rattle.access_laws.proofs.Sessions.{IsSoundClip, IsSoundStep}
 use Rattle.access_laws.proofs.Stays.{command_is_sound}
 
@@ -57,8 +57,8 @@ module _ (area : Area) (cs ds : List BlockContent) where
       let right : Task = record { spec = spec; seed = seed; ticket = t; copied = second; taken = after } in
       let column = λ (y : ℤ). ap (λ (c : BlockContent). c.state) (content_same area cs ds written agree (record (position_of area index) { y = y }) listed) in
       get_or-map-range_with_len (effect_at left w) 0 (volume area) index index air_content below (omega arith)
-      ∙ effect_same area cs ds seed s t spec first second same_copied before after same_taken alike index (agree index below listed) column spec.work alike.work
-      (read_same (boxes_read spec.work) (subst (λ (chunks : List ℕ). AgreeIn area chunks w v) reads agree_read)) is
+      ∙ effect_same area cs ds seed s t spec first second before after alike index (ap (λ (taken : List (List Change)). latest_change taken index) same_taken) (agree index below listed) column spec.work alike.work
+      (λ needed. same_copied) (sources_same w v spec.work is (read_same (boxes_read spec.work) (subst (λ (chunks : List ℕ). AgreeIn area chunks w v) reads agree_read)))
       ∙ sym (get_or-map-range_with_len (effect_at right v) 0 (volume area) index index air_content below (omega arith))
 
   -- a clipboard of a selection is the same

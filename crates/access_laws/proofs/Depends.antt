@@ -1,4 +1,5 @@
--- What a work makes of a place depends on the world only in the chunks that it reads and writes.
+-- What a work makes of a place depends on the world only in the place's own column of blocks and in the selection that it
+-- reads, and on the clipboard only where it needs one.
 use Rattle.std.proofs.Common.{◌≡◌, ℕ, ◌+◌, ◌+ℤ◌, ◌-ℤ◌, Bool, true, false, cond, not, ◌&&◌, ◌||◌, List, [], ◌∷◌, ℤ, get_or, Option, Some, None, refl, sym, ap, ◌∙◌}
 use Rattle.std.specs.Prelude.{IfSome, neg_ℤ, pos}
 use Rattle.std.specs.List.{find, list_all, list_any}
@@ -33,7 +34,11 @@ use Rattle.edit_terms.proofs.RegionLemmas.{framed}
 use Rattle.run_terms.specs.Change.{Change, content_of}
 use Rattle.run_terms.specs.Effect.{Task, is_source, stacked_from, latest_change, effect_of}
 use Rattle.run_terms.specs.Access.{boxes_read}
+use Rattle.run_terms.specs.Commands.{names_clipboard}
+use Rattle.run_terms.specs.Needs.{selection_read, needs_clipboard}
 use Rattle.access_laws.specs.Locality.{is_among, is_in_chunks, AgreeIn}
+use Rattle.access_laws.specs.Needs.{HaveSameSources}
+use Rattle.access_laws.proofs.PatternNeeds.{pattern_value-same}
 use Rattle.access_laws.proofs.Writes.{HasPositions}
 
 -- ---- where random words are the same
@@ -163,9 +168,9 @@ find_passes test (x ∷ xs) = by_head (find_passes test xs) (test x) refl
 
 -- ---- each work
 
-module _ (area : Area) (cs ds : List BlockContent) (seed s t : ℕ) (spec : Spec) (first second : CopiedBlocks) (same_copied : first ≡ second)
-    (before after : List (List Change)) (same_taken : before ≡ after) (alike : JobDrawsAlike seed s t spec)
-    (index : ℕ) (same_content : content_of (record { area = area; contents = cs }) index ≡ content_of (record { area = area; contents = ds }) index)
+module _ (area : Area) (cs ds : List BlockContent) (seed s t : ℕ) (spec : Spec) (first second : CopiedBlocks)
+    (before after : List (List Change)) (alike : JobDrawsAlike seed s t spec) (index : ℕ) (same_latest : latest_change before index ≡ latest_change after index)
+    (same_content : content_of (record { area = area; contents = cs }) index ≡ content_of (record { area = area; contents = ds }) index)
     (same_column : (y : ℤ) → state_at (record { area = area; contents = cs }) (record (position_of area index) { y = y }) ≡ state_at (record { area = area; contents = ds }) (record (position_of area index) { y = y })) where
   abbrev w : World
   w = record { area = area; contents = cs }
@@ -185,18 +190,15 @@ module _ (area : Area) (cs ds : List BlockContent) (seed s t : ℕ) (spec : Spec
   passes_same : is_allowed spec.global global_mask_use (record { world = w; selection = spec.selection; seed = seed; ticket = s }) p ≡ is_allowed spec.global global_mask_use (record { world = v; selection = spec.selection; seed = seed; ticket = t }) p
   passes_same = allowed_same area cs ds seed s t spec.selection spec.global alike.global global_mask_use p same_column
 
-  fill_same : (region : Region) (mask : Option Mask) (pattern : Pattern) → WorkDrawsAlike seed s t (Fill region mask pattern) → effect_of (Fill region mask pattern) left w index ≡ effect_of (Fill region mask pattern) right v index
-  fill_same region mask pattern draws =
+  fill_same : (region : Region) (mask : Option Mask) (pattern : Pattern) → WorkDrawsAlike seed s t (Fill region mask pattern) → (names_clipboard pattern ≡ true → first ≡ second)
+      → effect_of (Fill region mask pattern) left w index ≡ effect_of (Fill region mask pattern) right v index
+  fill_same region mask pattern draws same_copied =
       let allowed = allowed_same area cs ds seed s t spec.selection mask draws.0 mask_use p same_column in
       let passes = passes_same in
-      (λ i. cond (is_inside region p && allowed i && passes i) (pattern_value pattern (same_copied i) seed s p (same_content i)) (same_content i))
-      ∙ ap (λ (c : BlockContent). cond (is_inside region p && is_allowed mask mask_use (record { world = v; selection = spec.selection; seed = seed; ticket = t }) p && is_allowed spec.global global_mask_use (record { world = v; selection = spec.selection; seed = seed; ticket = t }) p) c (content_of v index)) (draws.1 second p (content_of v index))
+      (λ i. cond (is_inside region p && allowed i && passes i) (pattern_value pattern first seed s p (same_content i)) (same_content i))
+      ∙ ap (λ (c : BlockContent). cond (is_inside region p && is_allowed mask mask_use (record { world = v; selection = spec.selection; seed = seed; ticket = t }) p && is_allowed spec.global global_mask_use (record { world = v; selection = spec.selection; seed = seed; ticket = t }) p) c (content_of v index)) (draws.1 first p (content_of v index) ∙ pattern_value-same pattern first second same_copied seed t p (content_of v index))
 
-  -- what is read of a selection's blocks is the same in both
-  abbrev AreSameSources : Selection → Type 0
-  AreSameSources from = (q : Pos) → is_source from w q ≡ true → content_at w q ≡ content_at v q
-
-  stack_same : (from : Selection) (count : ℕ) (to : Direction) → AreSameSources from → effect_of (Stack from count to) left w index ≡ effect_of (Stack from count to) right v index
+  stack_same : (from : Selection) (count : ℕ) (to : Direction) → HaveSameSources from w v → effect_of (Stack from count to) left w index ≡ effect_of (Stack from count to) right v index
   stack_same from count to sources =
       let passes = passes_same in
       let found = by_found (find (is_source from w) (stacked_from from count to p)) (find_passes (is_source from w) (stacked_from from count to p)) in
@@ -206,7 +208,7 @@ module _ (area : Area) (cs ds : List BlockContent) (seed s t : ℕ) (spec : Spec
       by_found None is = same_content
       by_found (Some q) is = sources q is
 
-  move_same : (from : Selection) (count : ℕ) (to : Direction) → AreSameSources from → effect_of (Move from count to) left w index ≡ effect_of (Move from count to) right v index
+  move_same : (from : Selection) (count : ℕ) (to : Direction) → HaveSameSources from w v → effect_of (Move from count to) left w index ≡ effect_of (Move from count to) right v index
   move_same from count to sources =
       let passes = passes_same in
       let brought = by_source (away to (neg_ℤ (pos count)) p) (is_source from w (away to (neg_ℤ (pos count)) p)) refl in
@@ -220,20 +222,33 @@ module _ (area : Area) (cs ds : List BlockContent) (seed s t : ℕ) (spec : Spec
           ∙ ap (λ (c : BlockContent). cond (is_selected from p) air_content c) same_content
           ∙ sym (ap (λ (b : Bool). cond b (content_at v q) (cond (is_selected from p) air_content (content_of v index))) is)
 
-  paste_same : (place : Pos) (skip_air : Bool) → effect_of (Paste place skip_air) left w index ≡ effect_of (Paste place skip_air) right v index
-  paste_same place skip_air =
+  paste_same : (place : Pos) (skip_air : Bool) → first ≡ second → effect_of (Paste place skip_air) left w index ≡ effect_of (Paste place skip_air) right v index
+  paste_same place skip_air same_copied =
       let passes = passes_same in
       λ i. option_map_or (λ c. cond (passes i && not (skip_air && is_air c.state)) c (same_content i)) ((same_copied i).at (relative_to place p)) (same_content i)
 
   -- the effects of a work at a place are the same
-  pub effect_same : (work : Work) → WorkDrawsAlike seed s t work → ((q : Pos) → list_any (λ box. holds box q) (boxes_read work) ≡ true → content_at w q ≡ content_at v q) → HasPositions work
+  pub effect_same : (work : Work) → WorkDrawsAlike seed s t work → (needs_clipboard work ≡ true → first ≡ second) → IfSome (selection_read work) (λ from. HaveSameSources from w v)
       → effect_of work left w index ≡ effect_of work right v index
-  effect_same (Fill region mask pattern) draws reads is = fill_same region mask pattern draws
-  effect_same (Stack from count to) draws reads is = stack_same from count to (λ q source. reads q (ap (λ (b : Bool). b || false) (framed (Selected from) is q (and_both (is_selected from q) (holds area q) source).0)))
-  effect_same (Move from count to) draws reads is = move_same from count to (λ q source. reads q (ap (λ (b : Bool). b || false) (framed (Selected from) is q (and_both (is_selected from q) (holds area q) source).0)))
-  effect_same (Copy from) draws reads is = same_content
-  effect_same (Cut from) draws reads is = let passes = passes_same in λ i. cond (is_selected from p && passes i) air_content (same_content i)
-  effect_same (Paste place skip_air) draws reads is = paste_same place skip_air
-  effect_same (Put at state) draws reads is = λ i. cond (is_same_pos at p) (without_entity state) (same_content i)
-  effect_same (Undo edits) draws reads is = λ i. option_map_or (λ change. change.before) (latest_change (same_taken i) index) (same_content i)
-  effect_same (Redo edits) draws reads is = λ i. option_map_or (λ change. change.after) (latest_change (same_taken i) index) (same_content i)
+  effect_same (Fill region mask pattern) draws same_copied sources = fill_same region mask pattern draws same_copied
+  effect_same (Stack from count to) draws same_copied sources = stack_same from count to sources
+  effect_same (Move from count to) draws same_copied sources = move_same from count to sources
+  effect_same (Copy from) draws same_copied sources = same_content
+  effect_same (Cut from) draws same_copied sources = let passes = passes_same in λ i. cond (is_selected from p && passes i) air_content (same_content i)
+  effect_same (Paste place skip_air) draws same_copied sources = paste_same place skip_air (same_copied refl)
+  effect_same (Put at state) draws same_copied sources = λ i. cond (is_same_pos at p) (without_entity state) (same_content i)
+  effect_same (Undo edits) draws same_copied sources = λ i. option_map_or (λ change. change.before) (same_latest i) (same_content i)
+  effect_same (Redo edits) draws same_copied sources = λ i. option_map_or (λ change. change.after) (same_latest i) (same_content i)
+
+-- where what is read of a work's boxes is the same, the blocks of its selection are
+pub sources_same : (w v : World) (work : Work) → HasPositions work → ((q : Pos) → list_any (λ box. holds box q) (boxes_read work) ≡ true → content_at w q ≡ content_at v q)
+    → IfSome (selection_read work) (λ from. HaveSameSources from w v)
+sources_same w v (Fill region mask pattern) is reads = tt
+sources_same w v (Stack from count to) is reads = λ q source. reads q (ap (λ (b : Bool). b || false) (framed (Selected from) is q (and_both (is_selected from q) (holds w.area q) source).0))
+sources_same w v (Move from count to) is reads = λ q source. reads q (ap (λ (b : Bool). b || false) (framed (Selected from) is q (and_both (is_selected from q) (holds w.area q) source).0))
+sources_same w v (Copy from) is reads = λ q source. reads q (ap (λ (b : Bool). b || false) (framed (Selected from) is q (and_both (is_selected from q) (holds w.area q) source).0))
+sources_same w v (Cut from) is reads = λ q source. reads q (ap (λ (b : Bool). b || false) (framed (Selected from) is q (and_both (is_selected from q) (holds w.area q) source).0))
+sources_same w v (Paste place skip_air) is reads = tt
+sources_same w v (Put at state) is reads = tt
+sources_same w v (Undo edits) is reads = tt
+sources_same w v (Redo edits) is reads = tt

@@ -9,12 +9,12 @@ use Rattle.run_terms.specs.Change.{content_of}
 use Rattle.access_laws.specs.Locality.{is_among, IsAgreementByParts}
 use Rattle.access_laws.proofs.Agreement.{by_contents}
 
-same_number : (m n : ℕ) → eqb m n ≡ true → m ≡ n
+pub same_number : (m n : ℕ) → eqb m n ≡ true → m ≡ n
 same_number m n h = grind (arith)
 
 module _ (f g : ℕ → BlockContent) (test : ℕ → Bool) where
   -- the same at each place that passes the test, so the same list
-  listed_same : (a n end : ℕ) → a + n ≤ end → ((k : ℕ) → k < end → test k ≡ true → f k ≡ g k) → map f (filter test (range_with_len a n)) ≡ map g (filter test (range_with_len a n))
+  pub listed_same : (a n end : ℕ) → a + n ≤ end → ((k : ℕ) → k < end → test k ≡ true → f k ≡ g k) → map f (filter test (range_with_len a n)) ≡ map g (filter test (range_with_len a n))
   listed_same a zero end within same = refl
   listed_same a (suc n) end within same = by_head (listed_same (a + 1) n end (omega (arith, within)) same) (test a) refl
     where

@@ -33,6 +33,7 @@ use Rattle.run_terms.specs.Fold.{edits_taken, edits_taken_by}
 use Rattle.run_terms.specs.Limits.{is_count, is_optional_mask_within, is_pattern_within, is_command_within}
 use Rattle.run_terms.specs.SessionLimits.{is_selection_within, is_region_within, is_work_within, IsSessionWithin, IsStepWithin}
 use Rattle.run_terms.specs.Access.{boxes_read, boxes_read_by}
+use Rattle.run_terms.specs.Needs.{selection_read, selection_read_by}
 use Rattle.run_terms.proofs.Lists.{All-reverse}
 use Rattle.run_terms.proofs.Earlier.{clip_of, session_has_taken}
 use Rattle.run_terms.proofs.LimitLemmas.{line_has}
@@ -89,11 +90,12 @@ module _ (player depth : ℕ) (lines : List Line) where
   abbrev step_at : ℕ → Step
   step_at n = step_of_line player depth lines n
 
-  -- a clipboard of the player, whose selection fits, and whose copy read the selection's box
+  -- a clipboard of the player, whose selection fits, and whose copy read that selection
   pub record IsSoundClip (c : Clip) : Type 0 where
     pub own : c.source.player ≡ player
     pub fits : IsSelection c.from
     pub read : boxes_read_by (step_of_line player depth lines c.source.step) ≡ frame_of_selection c.from ∷ []
+    pub selection : selection_read_by (step_of_line player depth lines c.source.step) ≡ Some c.from
 
   -- a command that takes no edits
   abbrev pub TakesNone : ℕ → Type 0
@@ -111,14 +113,14 @@ module _ (player depth : ℕ) (lines : List Line) where
 
   -- ---- the session after a command
 
-  copy_sound : (s : Session) (make : Selection → Work) → ((from : Selection) → boxes_read (make from) ≡ frame_of_selection from ∷ []) → s.player ≡ player
+  copy_sound : (s : Session) (make : Selection → Work) → ((from : Selection) → boxes_read (make from) ≡ frame_of_selection from ∷ []) → ((from : Selection) → selection_read (make from) ≡ Some from) → s.player ≡ player
       → (sel : Option Selection) (place : Option Pos) → IfSome sel IsSelection → step_at s.number ≡ option_map_or (job_of s) (option_map make sel) Settled → IfSome (clip_from s sel place) IsSoundClip
-  copy_sound s make reads own (Some from) (Some origin) fits is = record { own = own; fits = fits; read = ap boxes_read_by is ∙ reads from }
-  copy_sound s make reads own (Some from) None fits is = tt
-  copy_sound s make reads own None place fits is = tt
+  copy_sound s make reads selects own (Some from) (Some origin) fits is = record { own = own; fits = fits; read = ap boxes_read_by is ∙ reads from; selection = ap selection_read_by is ∙ selects from }
+  copy_sound s make reads selects own (Some from) None fits is = tt
+  copy_sound s make reads selects own None place fits is = tt
 
   turned_sound : (change : Transform → Transform) (clip : Option Clip) → IfSome clip IsSoundClip → IfSome (option_map (λ (c : Clip). record c { transform = change c.transform }) clip) IsSoundClip
-  turned_sound change (Some c) h = record { own = h.own; fits = h.fits; read = h.read }
+  turned_sound change (Some c) h = record { own = h.own; fits = h.fits; read = h.read; selection = h.selection }
   turned_sound change None h = tt
 
   none_taken : (s : Session) {A : Type 0} (make : A → Work) (o : Option A) → ((a : A) → edits_taken (make a) ≡ []) → edits_taken_by (option_map_or (job_of s) (option_map make o) Settled) ≡ []
@@ -139,9 +141,9 @@ module _ (player depth : ℕ) (lines : List Line) where
     edited make o none is = entered_sound s h.clip h.edits (ap edits_taken_by is ∙ none_taken s make o none)
 
     with_command_sound : (command : Command) → step_at s.number ≡ option_map_or (job_of s) (work_of s command) Settled → IsSoundSession (with_command s command)
-    with_command_sound Copy is = record { clip = copy_sound s (λ from. work.Copy from) (λ from. refl) own (selection_of s) s.place fits is; edits = h.edits }
+    with_command_sound Copy is = record { clip = copy_sound s (λ from. work.Copy from) (λ from. refl) (λ from. refl) own (selection_of s) s.place fits is; edits = h.edits }
     with_command_sound Cut is =
-        entered_sound (with_copy s) (copy_sound s (λ from. work.Cut from) (λ from. refl) own (selection_of s) s.place fits is) h.edits
+        entered_sound (with_copy s) (copy_sound s (λ from. work.Cut from) (λ from. refl) (λ from. refl) own (selection_of s) s.place fits is) h.edits
         (ap edits_taken_by is ∙ none_taken s (λ from. work.Cut from) (selection_of s) (λ a. refl))
     with_command_sound (Rotate quarters) is = record { clip = turned_sound (λ t. then_turn t quarters) s.clip h.clip; edits = h.edits }
     with_command_sound (Flip to) is = record { clip = turned_sound (λ t. then_flip t to) s.clip h.clip; edits = h.edits }

@@ -5,6 +5,7 @@ pub mod Examples
 pub mod Tickets
 pub mod Earlier
 pub mod FoldLemmas
+pub mod PrefixLemmas
 pub mod EntityLemmas
 pub mod ChangeLemmas
 pub mod UndoLemmas

@@ -10,5 +10,7 @@ pub mod Result
 pub mod Undo
 pub mod Entities
 pub mod Access
+pub mod Needs
+pub mod Prefix
 pub mod Limits
 pub mod SessionLimits

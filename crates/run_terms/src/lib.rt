@@ -12,7 +12,10 @@ mod order_laws;
 mod session_laws;
 mod undo_laws;
 
-pub use fold_laws::{entities_come_from_the_opening_world, worlds_follow_from_earlier_worlds};
+pub use fold_laws::{
+    entities_come_from_the_opening_world, first_tickets_keep_their_results,
+    worlds_follow_from_earlier_worlds,
+};
 pub use limits::keeps_limits;
 pub use order_laws::{tickets_are_named, whole_orders_are_legal};
 pub use session_laws::{

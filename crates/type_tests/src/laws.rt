@@ -47,8 +47,13 @@ fn laws_of_runs_return(_rt: HostRuntime) {
     run_terms::undo_restores();
     run_terms::redo_restores();
     run_terms::undo_inverts();
+    run_terms::first_tickets_keep_their_results();
     access_laws::agreement_is_by_parts();
     access_laws::effects_are_local();
+    access_laws::effects_depend_on_needs();
+    access_laws::effect_in_chunk();
+    access_laws::other_parts_stay();
+    access_laws::clips_are_of_earlier_commands();
     access_laws::still_scripts_draw_nothing();
     access_laws::order_is_free();
     access_laws::outcomes_differ_in_order_alone();
