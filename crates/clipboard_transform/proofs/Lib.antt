@@ -1,3 +1,4 @@
 mod BoundsLemmas
 mod Corners
 pub mod MapLemmas
+pub mod PlacedLemmas

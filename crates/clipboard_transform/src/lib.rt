@@ -8,11 +8,13 @@
 mod bounds;
 mod box_turning;
 mod compose;
+mod placed;
 mod placing;
 mod relative_box;
 mod turning;
 
 pub use bounds::clip_box;
 pub use compose::{then_flip, then_turn};
+pub use placed::placed_extent;
 pub use placing::{place, source};
 pub use relative_box::RelativeBox;

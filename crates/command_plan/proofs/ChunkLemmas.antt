@@ -18,7 +18,7 @@ use Rattle.edit_terms.proofs.AreaLemmas.{and_both, held_below, position_at_index
 use Rattle.edit_terms.proofs.RegionLemmas.{in_common_box}
 use Rattle.run_terms.specs.Access.{is_chunk_of_box}
 use Rattle.command_plan.specs.declared.rectangle.Run.{Run}
-use Rattle.command_plan.specs.Rectangles.{is_among, covers, floor_of, IsRunWithin, IsInside}
+use Rattle.command_plan.specs.Rectangles.{is_among, covers, chunk_grid_of, IsRunWithin, IsInside}
 use Rattle.region_shapes.specs.Interval.{common, numbers_from}
 use Rattle.command_plan.specs.Cuts.{IsRunOf, IsCover, IsApart}
 use Rattle.edit_terms.proofs.ColumnLemmas.{block_in_column, column_of_block, columns_within}
@@ -160,7 +160,7 @@ run_within r a m b n is =
     record { order = omega arith; within = omega arith }
 
 pub cover_inside : (area box : Area) (x z : Run) → IsRunAlong x box.least.x box.width area.least.x area.width → IsRunAlong z box.least.z box.length area.least.z area.length
-    → IsInside (floor_of area) (record { x = x; z = z })
+    → IsInside (chunk_grid_of area) (record { x = x; z = z })
 cover_inside area box x z is_x is_z = record {
   x = run_within x box.least.x box.width area.least.x area.width is_x;
   z = run_within z box.least.z box.length area.least.z area.length is_z;

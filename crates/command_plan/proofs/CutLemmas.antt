@@ -7,7 +7,7 @@ use Rattle.edit_terms.proofs.AreaLemmas.{limits}
 use Rattle.edit_terms.proofs.ColumnLemmas.{sixteenth_rises, few_columns, last_not_below}
 use Rattle.region_shapes.specs.declared.interval.Interval.{Interval}
 use Rattle.region_shapes.specs.Interval.{is_empty, size}
-use Rattle.command_plan.specs.Rectangles.{floor_of, IsFloor}
+use Rattle.command_plan.specs.Rectangles.{chunk_grid_of, IsChunkGrid}
 
 -- by columns, from the first to behind the last
 columns_sum : (cb cl ce : ℤ) → cb ≤ℤ cl → cl ≤ℤ ce → nat_abs (ce -ℤ cb) + 1 ≡ nat_abs (cl -ℤ cb) + (nat_abs (ce -ℤ cl) + 1)
@@ -27,8 +27,8 @@ run_end shared own from some =
     ap (λ (v : ℤ). offset (sixteenth own.from) (sixteenth v) + 1) (last_number shared some)
     ∙ columns_sum (sixteenth own.from) (sixteenth low) (sixteenth end) (sixteenth_rises own.from low from) (sixteenth_rises low end (last_not_below low (size shared)))
 
-pub floor_is : (area : Area) → is_world_box area ≡ true → IsFloor (floor_of area)
-floor_is area h =
+pub chunk_grid_is : (area : Area) → is_world_box area ≡ true → IsChunkGrid (chunk_grid_of area)
+chunk_grid_is area h =
     let fits = limits area h in
     record {
       wide = omega arith;

@@ -1,6 +1,5 @@
--- Footprints of works whose boxes are told in another way.
-use Rattle.std.proofs.Common.{◌≡◌, ℕ, Bool, true, false, ◌||◌, refl, List, [], ◌∷◌, Option, Some, None, ℤ, pos, ◌+ℤ◌, ◌≤◌, subst, sym, ◌∙◌, arith}
-use Rattle.std.proofs.lemmas.Int.{ints}
+-- Footprints of works whose boxes are given in another way.
+use Rattle.std.proofs.Common.{◌≡◌, ℕ, Bool, true, false, ◌||◌, refl, List, [], ◌∷◌, Option, Some, None, ◌≤◌, subst, sym, ◌∙◌}
 use Rattle.std.specs.Prelude.{option_map}
 use Rattle.std.specs.List.{list_any}
 use Rattle.std.proofs.lemmas.Bool.{and_parts}
@@ -16,14 +15,11 @@ use Rattle.run_terms.specs.Limits.{is_count}
 use Rattle.run_terms.specs.SessionLimits.{is_selection_within, is_work_within}
 use Rattle.run_terms.proofs.LimitLemmas.{not_above}
 use Rattle.clipboard_transform.specs.declared.relative_box.RelativeBox.{RelativeBox}
-use Rattle.clipboard_transform.specs.Bounds.{corners, last_from}
-use Rattle.command_plan.specs.declared.rectangle.Spread.{Spread}
-use Rattle.command_plan.specs.Cuts.{IsSpreadOf}
+use Rattle.clipboard_transform.specs.Bounds.{corners}
+use Rattle.command_plan.specs.declared.rectangle.ChunkSet.{ChunkSet}
+use Rattle.command_plan.specs.Cuts.{IsChunkSetOf}
 use Rattle.command_plan.specs.Stacks.{stack_hull}
 use Rattle.command_plan.proofs.StackLemmas.{stack_is_hull}
-
-pub placed_end : (x low v : ℤ) (size : ℕ) → v ≡ last_from low size → (x +ℤ v +ℤ pos 1) ≡ (x +ℤ low) +ℤ pos size
-placed_end x low v size is = omega (arith, ints, is)
 
 or_none : (area box : Area) (chunk : ℕ) → list_any (is_chunk_of_box area chunk) (box ∷ []) ≡ is_chunk_of_box area chunk box
 or_none area box chunk = by_test (is_chunk_of_box area chunk box)
@@ -32,19 +28,19 @@ or_none area box chunk = by_test (is_chunk_of_box area chunk box)
     by_test true = refl
     by_test false = refl
 
-pub copies_spread : (area box : Area) (count : ℕ) (to : Direction) (s : Spread) → IsSpreadOf area (stack_hull count to box ∷ []) s → IsSpreadOf area (stacked_boxes count to box) s
-copies_spread area box count to s is = record {
+pub stacked_set : (area box : Area) (count : ℕ) (to : Direction) (s : ChunkSet) → IsChunkSetOf area (stack_hull count to box ∷ []) s → IsChunkSetOf area (stacked_boxes count to box) s
+stacked_set area box count to s is = record {
   inside = is.inside;
   exact = λ chunk. stack_is_hull area box chunk count to ∙ sym (or_none area (stack_hull count to box) chunk) ∙ is.exact chunk;
 }
 
 -- the bounds of a clipboard, by their corners
-pub pasted_none : (area : Area) (place : Pos) (bounds : Option Area) (s : Spread) → None ≡ option_map corners bounds → IsSpreadOf area [] s → IsSpreadOf area (pasted_boxes place bounds) s
+pub pasted_none : (area : Area) (place : Pos) (bounds : Option Area) (s : ChunkSet) → None ≡ option_map corners bounds → IsChunkSetOf area [] s → IsChunkSetOf area (pasted_boxes place bounds) s
 pasted_none area place None s e is = is
 pasted_none area place (Some b) s e is = absurd cc
 
-pub pasted_some : (area : Area) (place : Pos) (bounds : Option Area) (found : RelativeBox) (s : Spread) → Some found ≡ option_map corners bounds
-    → ((box : Area) → found ≡ corners box → IsSpreadOf area (record box { least = placed_at place box.least } ∷ []) s) → IsSpreadOf area (pasted_boxes place bounds) s
+pub pasted_some : (area : Area) (place : Pos) (bounds : Option Area) (found : RelativeBox) (s : ChunkSet) → Some found ≡ option_map corners bounds
+    → ((box : Area) → found ≡ corners box → IsChunkSetOf area (record box { least = placed_at place box.least } ∷ []) s) → IsChunkSetOf area (pasted_boxes place bounds) s
 pasted_some area place None found s e is = absurd cc
 pasted_some area place (Some b) found s e is = is b cc
 

@@ -9,7 +9,7 @@ use Rattle.std.proofs.Math.Seq.{take-length}
 use Rattle.edit_terms.specs.declared.step.Step.{Step}
 use Rattle.edit_terms.specs.declared.step.Step.TheVariants.{Settled}
 use Rattle.run_terms.specs.Fold.{edits_taken_by}
-use Rattle.command_plan.specs.Courses.{edits_at, is_taken, keeps_at, AreOfEarlier}
+use Rattle.command_plan.specs.ResolvedScripts.{edits_at, is_taken, keeps_at, AreOfEarlier}
 use Rattle.command_plan.proofs.RunLemmas.{range_split}
 
 or_true : (b : Bool) → (b || true) ≡ true

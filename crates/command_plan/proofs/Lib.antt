@@ -1,6 +1,6 @@
 pub mod RunLemmas
 pub mod RectangleLemmas
-pub mod SpreadLemmas
+pub mod ChunkSetLemmas
 pub mod StackLemmas
 pub mod ChunkLemmas
 pub mod ListingLemmas
@@ -8,7 +8,7 @@ pub mod FootprintLemmas
 pub mod MarkLemmas
 pub mod CutLemmas
 pub mod PlayerLemmas
-pub mod CourseLemmas
+pub mod ResolvedScriptLemmas
 pub mod WriteLemmas
 pub mod KeepLemmas
 pub mod PlanLemmas

@@ -9,11 +9,11 @@ use Rattle.std.proofs.lemmas.List.{length-append}
 use Rattle.std.proofs.lemmas.List.FromFn.{length-range_with_len}
 use Rattle.std.proofs.lemmas.Bool.{cases_lt}
 use Rattle.std.proofs.lemmas.Nat.{div-mul-add, mod-mul-add, div-add-mod', div_below, mod_below}
-use Rattle.command_plan.specs.declared.rectangle.Floor.{Floor}
+use Rattle.command_plan.specs.declared.rectangle.ChunkGrid.{ChunkGrid}
 use Rattle.command_plan.specs.declared.rectangle.Rectangle.{Rectangle}
 use Rattle.command_plan.specs.declared.rectangle.Run.{Run}
-use Rattle.command_plan.specs.declared.rectangle.Spread.{Spread}
-use Rattle.command_plan.specs.Rectangles.{is_among, covers, is_spread_over, IsFloor, IsRunWithin, IsInside, IsPartOf, chunks_with, chunks_over}
+use Rattle.command_plan.specs.declared.rectangle.ChunkSet.{ChunkSet}
+use Rattle.command_plan.specs.Rectangles.{is_among, covers, is_in_set, IsChunkGrid, IsRunWithin, IsInside, IsPartOf, chunks_with, chunks_over}
 use Rattle.command_plan.proofs.RunLemmas.{filter_none, filter_all, filter_split, trim, filter_agrees, filter_either}
 
 -- ---- a chunk by its column and row
@@ -33,9 +33,9 @@ at columns column row chunk inside is =
 pub covers_at : (columns : ℕ) (r : Rectangle) (column row : ℕ) → column < columns → covers columns r (column + row * columns) ≡ (is_among r.x column && is_among r.z row)
 covers_at columns r column row inside = let is = at columns column row (column + row * columns) inside refl in let c = is.column_is in let d = is.row_is in rw (c, d) refl
 
-pub spread_at : (columns : ℕ) (s : Spread) (column row : ℕ) → column < columns
-    → is_spread_over columns s (column + row * columns) ≡ ((is_among s.first.x column && is_among s.first.z row) || (is_among s.second.x column && is_among s.second.z row))
-spread_at columns s column row inside = let a = covers_at columns s.first column row inside in let b = covers_at columns s.second column row inside in rw (a, b) refl
+pub set_at : (columns : ℕ) (s : ChunkSet) (column row : ℕ) → column < columns
+    → is_in_set columns s (column + row * columns) ≡ ((is_among s.first.x column && is_among s.first.z row) || (is_among s.second.x column && is_among s.second.z row))
+set_at columns s column row inside = let a = covers_at columns s.first column row inside in let b = covers_at columns s.second column row inside in rw (a, b) refl
 
 -- ---- outside a rectangle
 
@@ -96,8 +96,8 @@ or_both : (b c : Bool) → b ≡ false → c ≡ false → (b || c) ≡ false
 or_both true c fails other = absurd cc
 or_both false c fails other = other
 
-pub spread_bounded : (columns : ℕ) (s : Spread) (whole : Rectangle) → 0 < columns → IsPartOf s.first whole → IsPartOf s.second whole → IsBounded columns whole (is_spread_over columns s)
-spread_bounded columns s whole some one two =
+pub set_bounded : (columns : ℕ) (s : ChunkSet) (whole : Rectangle) → 0 < columns → IsPartOf s.first whole → IsPartOf s.second whole → IsBounded columns whole (is_in_set columns s)
+set_bounded columns s whole some one two =
     let p = covers_bounded columns s.first whole some one in
     let q = covers_bounded columns s.second whole some two in
     record {
@@ -109,28 +109,28 @@ spread_bounded columns s whole some one two =
 
 -- ---- what passes the test, row by row
 
-module _ (floor : Floor) (whole : Rectangle) (test : ℕ → Bool) (bounded : IsBounded floor.columns whole test) (inside : IsInside floor whole) where
-  pub rows_start : filter test (range_with_len 0 (whole.z.from * floor.columns)) ≡ []
-  rows_start = filter_none test 0 (whole.z.from * floor.columns) (λ k low high. bounded.before_rows k (omega (arith, high)))
+module _ (grid : ChunkGrid) (whole : Rectangle) (test : ℕ → Bool) (bounded : IsBounded grid.columns whole test) (inside : IsInside grid whole) where
+  pub rows_start : filter test (range_with_len 0 (whole.z.from * grid.columns)) ≡ []
+  rows_start = filter_none test 0 (whole.z.from * grid.columns) (λ k low high. bounded.before_rows k (omega (arith, high)))
 
-  pub next_row : (row : ℕ) → filter test (range_with_len 0 ((row + 1) * floor.columns))
-      ≡ filter test (range_with_len 0 (row * floor.columns)) ++ filter test (range_with_len (whole.x.from + row * floor.columns) (whole.x.to - whole.x.from))
+  pub next_row : (row : ℕ) → filter test (range_with_len 0 ((row + 1) * grid.columns))
+      ≡ filter test (range_with_len 0 (row * grid.columns)) ++ filter test (range_with_len (whole.x.from + row * grid.columns) (whole.x.to - whole.x.from))
   next_row row =
       let order = inside.x.order in let within = inside.x.within in
-      let more : (row + 1) * floor.columns ≡ row * floor.columns + floor.columns = omega arith in
-      let start : 0 + row * floor.columns ≡ row * floor.columns = omega arith in
+      let more : (row + 1) * grid.columns ≡ row * grid.columns + grid.columns = omega arith in
+      let start : 0 + row * grid.columns ≡ row * grid.columns = omega arith in
       ap (λ (n : ℕ). filter test (range_with_len 0 n)) more
-      ∙ filter_split test 0 (row * floor.columns) floor.columns
-      ∙ ap (λ (n : ℕ). filter test (range_with_len 0 (row * floor.columns)) ++ filter test (range_with_len n floor.columns)) start
-      ∙ ap (λ (ns : List ℕ). filter test (range_with_len 0 (row * floor.columns)) ++ ns)
-      (trim test (row * floor.columns) floor.columns (whole.x.from + row * floor.columns) (whole.x.to - whole.x.from) (omega arith) (omega arith)
+      ∙ filter_split test 0 (row * grid.columns) grid.columns
+      ∙ ap (λ (n : ℕ). filter test (range_with_len 0 (row * grid.columns)) ++ filter test (range_with_len n grid.columns)) start
+      ∙ ap (λ (ns : List ℕ). filter test (range_with_len 0 (row * grid.columns)) ++ ns)
+      (trim test (row * grid.columns) grid.columns (whole.x.from + row * grid.columns) (whole.x.to - whole.x.from) (omega arith) (omega arith)
       (λ k low high. bounded.before_columns row k low high (omega arith)) (λ k low high. bounded.behind_columns row k (omega (arith, low)) high))
 
-  pub rows_end : filter test (range_with_len 0 (whole.z.to * floor.columns)) ≡ chunks_with floor test
+  pub rows_end : filter test (range_with_len 0 (whole.z.to * grid.columns)) ≡ chunks_with grid test
   rows_end =
-      let fits : whole.z.to * floor.columns ≤ floor.rows * floor.columns = mul-le-mul inside.z.within (omega arith) in
-      let order : floor.columns * floor.rows ≡ floor.rows * floor.columns = omega arith in
-      sym (trim test 0 (floor.columns * floor.rows) 0 (whole.z.to * floor.columns) (omega arith) (omega (arith, fits, order))
+      let fits : whole.z.to * grid.columns ≤ grid.rows * grid.columns = mul-le-mul inside.z.within (omega arith) in
+      let order : grid.columns * grid.rows ≡ grid.rows * grid.columns = omega arith in
+      sym (trim test 0 (grid.columns * grid.rows) 0 (whole.z.to * grid.columns) (omega arith) (omega (arith, fits, order))
       (λ k low high. absurd (omega (arith, high))) (λ k low high. bounded.behind_rows k (omega (arith, low))))
 
 -- ---- how many chunks
@@ -144,41 +144,41 @@ full_row columns r row inside among = filter_all (covers columns r) (r.x.from + 
     both_true (ap (is_among r.x) is.column_is ∙ among_run r.x (k - row * columns) (omega (arith, low)) (omega (arith, low, high)))
     (ap (is_among r.z) is.row_is ∙ among))
 
-size_of_rows : (floor : Floor) (r : Rectangle) → IsFloor floor → IsInside floor r → (n : ℕ) → n ≤ r.z.to - r.z.from
-    → length (filter (covers floor.columns r) (range_with_len 0 ((r.z.from + n) * floor.columns))) ≡ (r.x.to - r.x.from) * n
-size_of_rows floor r is inside zero few =
+size_of_rows : (grid : ChunkGrid) (r : Rectangle) → IsChunkGrid grid → IsInside grid r → (n : ℕ) → n ≤ r.z.to - r.z.from
+    → length (filter (covers grid.columns r) (range_with_len 0 ((r.z.from + n) * grid.columns))) ≡ (r.x.to - r.x.from) * n
+size_of_rows grid r is inside zero few =
     let e : r.z.from + 0 ≡ r.z.from = omega arith in
-    ap (λ (k : ℕ). length (filter (covers floor.columns r) (range_with_len 0 (k * floor.columns)))) e
-    ∙ ap (λ (ns : List ℕ). length ns) (rows_start floor r (covers floor.columns r) (covers_bounded floor.columns r r is.wide (part_of_itself r)) inside)
+    ap (λ (k : ℕ). length (filter (covers grid.columns r) (range_with_len 0 (k * grid.columns)))) e
+    ∙ ap (λ (ns : List ℕ). length ns) (rows_start grid r (covers grid.columns r) (covers_bounded grid.columns r r is.wide (part_of_itself r)) inside)
     ∙ omega arith
-size_of_rows floor r is inside (suc n) few =
+size_of_rows grid r is inside (suc n) few =
     let next : r.z.from + suc n ≡ r.z.from + n + 1 = omega arith in
     let row = r.z.from + n in
-    let earlier = size_of_rows floor r is inside n (omega (arith, few)) in
+    let earlier = size_of_rows grid r is inside n (omega (arith, few)) in
     let among = among_run r.z row (omega arith) (omega (arith, few)) in
-    ap (λ (k : ℕ). length (filter (covers floor.columns r) (range_with_len 0 (k * floor.columns)))) next
-    ∙ ap (λ (ns : List ℕ). length ns) (next_row floor r (covers floor.columns r) (covers_bounded floor.columns r r is.wide (part_of_itself r)) inside row)
-    ∙ length-append (filter (covers floor.columns r) (range_with_len 0 (row * floor.columns))) (filter (covers floor.columns r) (range_with_len (r.x.from + row * floor.columns) (r.x.to - r.x.from)))
-    ∙ ap (λ (k : ℕ). k + length (filter (covers floor.columns r) (range_with_len (r.x.from + row * floor.columns) (r.x.to - r.x.from)))) earlier
-    ∙ ap (λ (ns : List ℕ). (r.x.to - r.x.from) * n + length ns) (full_row floor.columns r row inside.x among)
-    ∙ ap (λ (k : ℕ). (r.x.to - r.x.from) * n + k) (length-range_with_len (r.x.from + row * floor.columns) (r.x.to - r.x.from))
+    ap (λ (k : ℕ). length (filter (covers grid.columns r) (range_with_len 0 (k * grid.columns)))) next
+    ∙ ap (λ (ns : List ℕ). length ns) (next_row grid r (covers grid.columns r) (covers_bounded grid.columns r r is.wide (part_of_itself r)) inside row)
+    ∙ length-append (filter (covers grid.columns r) (range_with_len 0 (row * grid.columns))) (filter (covers grid.columns r) (range_with_len (r.x.from + row * grid.columns) (r.x.to - r.x.from)))
+    ∙ ap (λ (k : ℕ). k + length (filter (covers grid.columns r) (range_with_len (r.x.from + row * grid.columns) (r.x.to - r.x.from)))) earlier
+    ∙ ap (λ (ns : List ℕ). (r.x.to - r.x.from) * n + length ns) (full_row grid.columns r row inside.x among)
+    ∙ ap (λ (k : ℕ). (r.x.to - r.x.from) * n + k) (length-range_with_len (r.x.from + row * grid.columns) (r.x.to - r.x.from))
     ∙ omega arith
 
-pub rectangle_size : (floor : Floor) (r : Rectangle) → IsFloor floor → IsInside floor r → length (chunks_with floor (covers floor.columns r)) ≡ (r.x.to - r.x.from) * (r.z.to - r.z.from)
-rectangle_size floor r is inside =
+pub rectangle_size : (grid : ChunkGrid) (r : Rectangle) → IsChunkGrid grid → IsInside grid r → length (chunks_with grid (covers grid.columns r)) ≡ (r.x.to - r.x.from) * (r.z.to - r.z.from)
+rectangle_size grid r is inside =
     let order = inside.z.order in
     let e : r.z.to ≡ r.z.from + (r.z.to - r.z.from) = omega arith in
-    ap (λ (ns : List ℕ). length ns) (sym (rows_end floor r (covers floor.columns r) (covers_bounded floor.columns r r is.wide (part_of_itself r)) inside))
-    ∙ ap (λ (k : ℕ). length (filter (covers floor.columns r) (range_with_len 0 (k * floor.columns)))) e
-    ∙ size_of_rows floor r is inside (r.z.to - r.z.from) (omega arith)
+    ap (λ (ns : List ℕ). length ns) (sym (rows_end grid r (covers grid.columns r) (covers_bounded grid.columns r r is.wide (part_of_itself r)) inside))
+    ∙ ap (λ (k : ℕ). length (filter (covers grid.columns r) (range_with_len 0 (k * grid.columns)))) e
+    ∙ size_of_rows grid r is inside (r.z.to - r.z.from) (omega arith)
 
-pub spread_size : (floor : Floor) (s : Spread) (both : Rectangle) → ((chunk : ℕ) → covers floor.columns both chunk ≡ (covers floor.columns s.first chunk && covers floor.columns s.second chunk))
-    → length (chunks_over floor s) + length (chunks_with floor (covers floor.columns both)) ≡ length (chunks_with floor (covers floor.columns s.first)) + length (chunks_with floor (covers floor.columns s.second))
-spread_size floor s both exact =
-    let all = floor.columns * floor.rows in
-    ap (λ (ns : List ℕ). length (chunks_over floor s) + length ns)
-    (filter_agrees (covers floor.columns both) (λ k. covers floor.columns s.first k && covers floor.columns s.second k) 0 all (λ k low high. exact k))
-    ∙ filter_either (covers floor.columns s.first) (covers floor.columns s.second) (range_with_len 0 all)
+pub chunk_count : (grid : ChunkGrid) (s : ChunkSet) (both : Rectangle) → ((chunk : ℕ) → covers grid.columns both chunk ≡ (covers grid.columns s.first chunk && covers grid.columns s.second chunk))
+    → length (chunks_over grid s) + length (chunks_with grid (covers grid.columns both)) ≡ length (chunks_with grid (covers grid.columns s.first)) + length (chunks_with grid (covers grid.columns s.second))
+chunk_count grid s both exact =
+    let all = grid.columns * grid.rows in
+    ap (λ (ns : List ℕ). length (chunks_over grid s) + length ns)
+    (filter_agrees (covers grid.columns both) (λ k. covers grid.columns s.first k && covers grid.columns s.second k) 0 all (λ k low high. exact k))
+    ∙ filter_either (covers grid.columns s.first) (covers grid.columns s.second) (range_with_len 0 all)
 
 -- a number of the range more
 pub filter_more : (test : ℕ → Bool) (a n k : ℕ) → a + n ≡ k → filter test (range_with_len a (n + 1)) ≡ filter test (range_with_len a n) ++ cond (test k) (k ∷ []) []

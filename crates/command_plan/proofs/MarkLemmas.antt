@@ -12,8 +12,8 @@ use Rattle.std.proofs.lemmas.List.Folds.{list_any-append}
 use Rattle.std.proofs.lemmas.Nat.{div-add-mod', mod_below}
 use Rattle.command_plan.specs.declared.footprint.Footprint.{Footprint}
 use Rattle.command_plan.specs.declared.rectangle.Run.{Run}
-use Rattle.command_plan.specs.Rectangles.{covers, is_spread_over, IsRunWithin}
-use Rattle.command_plan.specs.Courses.{is_written, footprint_at, marked}
+use Rattle.command_plan.specs.Rectangles.{covers, is_in_set, IsRunWithin}
+use Rattle.command_plan.specs.ResolvedScripts.{is_written, footprint_at, marked}
 use Rattle.command_plan.proofs.ListingLemmas.{filter_more}
 
 pub or_again : (a b c : Bool) → ((a || b) || c) ≡ (a || (b || c))
@@ -75,13 +75,13 @@ any_more test xs i d within =
 
 -- a command more
 pub written_more : (columns : ℕ) (fs : List Footprint) (commands : List ℕ) (i k : ℕ) (old mid new : Bool) → i < length commands
-    → mid ≡ (old || is_written columns fs (take i commands) k) → new ≡ (mid || is_spread_over columns (footprint_at fs (get_or commands i 0)).writes k)
+    → mid ≡ (old || is_written columns fs (take i commands) k) → new ≡ (mid || is_in_set columns (footprint_at fs (get_or commands i 0)).writes k)
     → new ≡ (old || is_written columns fs (take (i + 1) commands) k)
 written_more columns fs commands i k old mid new within earlier here =
     here
-    ∙ ap (λ (b : Bool). b || is_spread_over columns (footprint_at fs (get_or commands i 0)).writes k) earlier
-    ∙ or_again old (is_written columns fs (take i commands) k) (is_spread_over columns (footprint_at fs (get_or commands i 0)).writes k)
-    ∙ ap (λ (b : Bool). old || b) (sym (any_more (λ n. is_spread_over columns (footprint_at fs n).writes k) commands i 0 within))
+    ∙ ap (λ (b : Bool). b || is_in_set columns (footprint_at fs (get_or commands i 0)).writes k) earlier
+    ∙ or_again old (is_written columns fs (take i commands) k) (is_in_set columns (footprint_at fs (get_or commands i 0)).writes k)
+    ∙ ap (λ (b : Bool). old || b) (sym (any_more (λ n. is_in_set columns (footprint_at fs n).writes k) commands i 0 within))
 
 -- ---- how many are marked
 

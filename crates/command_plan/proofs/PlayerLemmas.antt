@@ -15,8 +15,8 @@ use Rattle.run_terms.specs.Fold.{edits_taken_by}
 use Rattle.run_terms.specs.Session.{step_of_line}
 use Rattle.run_terms.proofs.Earlier.{step_is_of_earlier}
 use Rattle.command_plan.specs.declared.footprint.Footprint.{Footprint}
-use Rattle.command_plan.specs.Courses.{footprint_at, step_at, edits_at, reads_at, writes_at, jobs_at, is_written, IsSound, IsResolved}
-use Rattle.command_plan.specs.Rectangles.{floor_of, is_spread_over}
+use Rattle.command_plan.specs.ResolvedScripts.{footprint_at, step_at, edits_at, reads_at, writes_at, jobs_at, is_written, IsSound, IsResolved}
+use Rattle.command_plan.specs.Rectangles.{chunk_grid_of, is_in_set}
 use Rattle.command_plan.proofs.RunLemmas.{filter_agrees}
 
 -- some block of what these commands write by themselves lies in a chunk
@@ -40,7 +40,7 @@ module _ (area : Area) (player depth : ℕ) (lines : List Line) (steps : List St
   earlier : (n : ℕ) → n < length lines → All (λ edit. edit < n) (edits_at steps n)
   earlier n within = subst (λ (s : Step). All (λ edit. edit < n) (edits_taken_by s)) (sym (step_is n within)) (step_is_of_earlier player depth lines n).taken
 
-  pub sound : IsSound (floor_of area) steps fs
+  pub sound : IsSound (chunk_grid_of area) steps fs
   sound =
       let many = is.many in
       record {
@@ -52,12 +52,12 @@ module _ (area : Area) (player depth : ℕ) (lines : List Line) (steps : List St
         earlier = λ n below. earlier n (omega (arith, below, count));
       }
 
-  pub reads_are : (n : ℕ) → n < length lines → reads_at (floor_of area) fs n ≡ chunks_of_boxes area (boxes_read_by (step_of_line player depth lines n))
+  pub reads_are : (n : ℕ) → n < length lines → reads_at (chunk_grid_of area) fs n ≡ chunks_of_boxes area (boxes_read_by (step_of_line player depth lines n))
   reads_are n within =
-      filter_agrees (is_spread_over (columns area.least.x area.width) (footprint_at fs n).reads) (λ chunk. list_any (is_chunk_of_box area chunk) (boxes_read_by (step_of_line player depth lines n))) 0 (chunks area)
+      filter_agrees (is_in_set (columns area.least.x area.width) (footprint_at fs n).reads) (λ chunk. list_any (is_chunk_of_box area chunk) (boxes_read_by (step_of_line player depth lines n))) 0 (chunks area)
       (λ chunk low high. sym ((is.each n within).reads.exact chunk))
 
-  pub writes_are : (n : ℕ) → n < length lines → writes_at (floor_of area) steps fs n
+  pub writes_are : (n : ℕ) → n < length lines → writes_at (chunk_grid_of area) steps fs n
       ≡ chunks_of_boxes area (flat_map (λ m. boxes_written_by area (step_of_line player depth lines m)) (n ∷ edits_taken_by (step_of_line player depth lines n)))
   writes_are n within =
       let own = step_of_line player depth lines n in
@@ -68,13 +68,13 @@ module _ (area : Area) (player depth : ℕ) (lines : List Line) (steps : List St
       ap (λ (s : Step). filter (is_written (columns area.least.x area.width) fs (n ∷ edits_taken_by s)) (range_with_len 0 (chunks area))) (step_is n within)
       ∙ filter_agrees (is_written (columns area.least.x area.width) fs commands) (λ chunk. list_any (is_chunk_of_box area chunk) (flat_map boxes commands)) 0 (chunks area)
       (λ chunk low high.
-      any_agrees (λ m. is_spread_over (columns area.least.x area.width) (footprint_at fs m).writes chunk) (λ m. list_any (is_chunk_of_box area chunk) (boxes m)) (λ m. m < length lines)
+      any_agrees (λ m. is_in_set (columns area.least.x area.width) (footprint_at fs m).writes chunk) (λ m. list_any (is_chunk_of_box area chunk) (boxes m)) (λ m. m < length lines)
       (λ m below. sym ((is.each m below).writes.exact chunk)) commands all
       ∙ sym (any_of_boxes (is_chunk_of_box area chunk) boxes commands))
 
-  pub jobs_are : (n : ℕ) → n < length lines → jobs_at (floor_of area) steps fs n
+  pub jobs_are : (n : ℕ) → n < length lines → jobs_at (chunk_grid_of area) steps fs n
       ≡ length (chunks_of_boxes area (boxes_read_by (step_of_line player depth lines n)))
       + length (chunks_of_boxes area (flat_map (λ m. boxes_written_by area (step_of_line player depth lines m)) (n ∷ edits_taken_by (step_of_line player depth lines n))))
   jobs_are n within =
-      ap (λ (ns : List ℕ). length ns + length (writes_at (floor_of area) steps fs n)) (reads_are n within)
+      ap (λ (ns : List ℕ). length ns + length (writes_at (chunk_grid_of area) steps fs n)) (reads_are n within)
       ∙ ap (λ (ns : List ℕ). length (chunks_of_boxes area (boxes_read_by (step_of_line player depth lines n))) + length ns) (writes_are n within)

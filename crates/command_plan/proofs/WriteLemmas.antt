@@ -8,29 +8,29 @@ use Rattle.edit_terms.specs.declared.step.Step.{Step}
 use Rattle.edit_terms.specs.declared.step.Step.TheVariants.{Settled}
 use Rattle.run_terms.specs.Fold.{edits_taken_by}
 use Rattle.command_plan.specs.declared.footprint.Footprint.{Footprint}
-use Rattle.command_plan.specs.declared.rectangle.Floor.{Floor}
-use Rattle.command_plan.specs.Courses.{footprint_at, is_written, marked, edits_at, writes_at, IsSound}
-use Rattle.command_plan.specs.Rectangles.{is_spread_over, chunks_with, chunks_over}
+use Rattle.command_plan.specs.declared.rectangle.ChunkGrid.{ChunkGrid}
+use Rattle.command_plan.specs.ResolvedScripts.{footprint_at, is_written, marked, edits_at, writes_at, IsSound}
+use Rattle.command_plan.specs.Rectangles.{is_in_set, chunks_with, chunks_over}
 use Rattle.command_plan.proofs.RunLemmas.{filter_agrees, range_split}
 use Rattle.command_plan.proofs.MarkLemmas.{or_end}
 
 -- a command that takes none
-pub alone : (floor : Floor) (fs : List Footprint) (n : ℕ) (taken : List ℕ) → length taken ≡ 0 → chunks_over floor (footprint_at fs n).writes ≡ chunks_with floor (is_written floor.columns fs (n ∷ taken))
-alone floor fs n [] none = filter_agrees (is_spread_over floor.columns (footprint_at fs n).writes) (is_written floor.columns fs (n ∷ [])) 0 (floor.columns * floor.rows) (λ k low high. sym (or_end (is_spread_over floor.columns (footprint_at fs n).writes k)))
-alone floor fs n (m ∷ taken) none = absurd (omega (arith, none))
+pub alone : (grid : ChunkGrid) (fs : List Footprint) (n : ℕ) (taken : List ℕ) → length taken ≡ 0 → chunks_over grid (footprint_at fs n).writes ≡ chunks_with grid (is_written grid.columns fs (n ∷ taken))
+alone grid fs n [] none = filter_agrees (is_in_set grid.columns (footprint_at fs n).writes) (is_written grid.columns fs (n ∷ [])) 0 (grid.columns * grid.rows) (λ k low high. sym (or_end (is_in_set grid.columns (footprint_at fs n).writes k)))
+alone grid fs n (m ∷ taken) none = absurd (omega (arith, none))
 
 -- marks that stand exactly where a test holds
-pub marked_is : (floor : Floor) (marks : List Bool) (test : ℕ → Bool) → length marks ≡ floor.columns * floor.rows → ((k : ℕ) → get_or marks k false ≡ test k) → marked marks ≡ chunks_with floor test
-marked_is floor marks test many each =
+pub marked_is : (grid : ChunkGrid) (marks : List Bool) (test : ℕ → Bool) → length marks ≡ grid.columns * grid.rows → ((k : ℕ) → get_or marks k false ≡ test k) → marked marks ≡ chunks_with grid test
+marked_is grid marks test many each =
     ap (λ (n : ℕ). filter (λ k. get_or marks k false) (range_with_len 0 n)) many
-    ∙ filter_agrees (λ k. get_or marks k false) test 0 (floor.columns * floor.rows) (λ k low high. each k)
+    ∙ filter_agrees (λ k. get_or marks k false) test 0 (grid.columns * grid.rows) (λ k low high. each k)
 
 -- the step that is read at a place
 pub edits_read : (steps : List Step) (n : ℕ) (step : Step) → n < length steps → step ≡ get_or steps n step → edits_taken_by step ≡ edits_at steps n
 edits_read steps n step within is = ap edits_taken_by (is ∙ get_or_default steps n step Settled within)
 
-pub taken_known : (floor : Floor) (steps : List Step) (fs : List Footprint) (n : ℕ) → IsSound floor steps fs → n < length steps → All (λ e. e < length fs) (edits_at steps n)
-taken_known floor steps fs n sound within k d below = let e = sound.earlier n within k d below in let many = sound.many in omega (arith, e, many, within)
+pub taken_known : (grid : ChunkGrid) (steps : List Step) (fs : List Footprint) (n : ℕ) → IsSound grid steps fs → n < length steps → All (λ e. e < length fs) (edits_at steps n)
+taken_known grid steps fs n sound within k d below = let e = sound.earlier n within k d below in let many = sound.many in omega (arith, e, many, within)
 
 -- a number of the range more
 pub sum_more : (f : ℕ → ℕ) (n : ℕ) → sum_by f (range_with_len 0 (n + 1)) ≡ sum_by f (range_with_len 0 n) + f n
@@ -46,6 +46,6 @@ sum_more f n =
     last = ap (λ (k : ℕ). f k + 0) start ∙ omega arith
 
 -- what a command writes, by the step that is read at its place
-pub writes_read : (floor : Floor) (steps : List Step) (fs : List Footprint) (n : ℕ) (step : Step) → n < length steps → step ≡ get_or steps n step
-    → length (chunks_with floor (is_written floor.columns fs (n ∷ edits_taken_by step))) ≡ length (writes_at floor steps fs n)
-writes_read floor steps fs n step within is = ap (λ (es : List ℕ). length (chunks_with floor (is_written floor.columns fs (n ∷ es)))) (edits_read steps n step within is)
+pub writes_read : (grid : ChunkGrid) (steps : List Step) (fs : List Footprint) (n : ℕ) (step : Step) → n < length steps → step ≡ get_or steps n step
+    → length (chunks_with grid (is_written grid.columns fs (n ∷ edits_taken_by step))) ≡ length (writes_at grid steps fs n)
+writes_read grid steps fs n step within is = ap (λ (es : List ℕ). length (chunks_with grid (is_written grid.columns fs (n ∷ es)))) (edits_read steps n step within is)

@@ -7,8 +7,8 @@ use Rattle.region_shapes.specs.declared.interval.Interval.{Interval}
 use Rattle.region_shapes.specs.Interval.{common, size}
 use Rattle.command_plan.specs.declared.rectangle.Run.{Run}
 use Rattle.command_plan.specs.declared.rectangle.Rectangle.{Rectangle}
-use Rattle.command_plan.specs.declared.rectangle.Spread.{Spread}
-use Rattle.command_plan.specs.Rectangles.{floor_of, covers, is_spread_over, IsInside, IsSpreadInside}
+use Rattle.command_plan.specs.declared.rectangle.ChunkSet.{ChunkSet}
+use Rattle.command_plan.specs.Rectangles.{chunk_grid_of, covers, is_in_set, IsInside, IsSetInside}
 
 -- the columns of what an interval has in common with a box's own, counted from the box's
 pub record IsRunOf (r : Run) (shared own : Interval) : Type 0 where
@@ -21,7 +21,7 @@ IsCutRun run i own = MatchOption run (size (common i own) ≡ 0) (λ r. IsRunOf 
 
 -- the rectangle has exactly the chunks in which a block of one of the boxes lies
 pub record IsCover (area : Area) (boxes : List Area) (r : Rectangle) : Type 0 where
-  pub inside : IsInside (floor_of area) r
+  pub inside : IsInside (chunk_grid_of area) r
   pub exact : (chunk : ℕ) → list_any (is_chunk_of_box area chunk) boxes ≡ covers (columns area.least.x area.width) r chunk
 
 -- no block of the boxes lies in a chunk
@@ -32,6 +32,6 @@ abbrev pub IsCutOf : Area → List Area → Option Rectangle → Type 0
 IsCutOf area boxes cut = MatchOption cut (IsApart area boxes) (IsCover area boxes)
 
 -- the two rectangles have exactly the chunks in which a block of one of the boxes lies
-pub record IsSpreadOf (area : Area) (boxes : List Area) (s : Spread) : Type 0 where
-  pub inside : IsSpreadInside (floor_of area) s
-  pub exact : (chunk : ℕ) → list_any (is_chunk_of_box area chunk) boxes ≡ is_spread_over (columns area.least.x area.width) s chunk
+pub record IsChunkSetOf (area : Area) (boxes : List Area) (s : ChunkSet) : Type 0 where
+  pub inside : IsSetInside (chunk_grid_of area) s
+  pub exact : (chunk : ℕ) → list_any (is_chunk_of_box area chunk) boxes ≡ is_in_set (columns area.least.x area.width) s chunk

@@ -2,8 +2,8 @@ pub mod Rectangles
 pub mod Cuts
 pub mod Stacks
 pub mod Footprints
-pub mod Courses
+pub mod ResolvedScripts
 pub mod Taken
 pub mod Plan
 pub mod Players
-pub mod PlannedCourses
+pub mod PlannedScripts

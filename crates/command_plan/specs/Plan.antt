@@ -53,14 +53,14 @@ jobs_of plan = sum_by jobs_of_player plan.players
 abbrev pub most_jobs : ℕ
 most_jobs = 16777216
 
--- too many accesses are told by their number
+-- the fault of too many accesses has their number
 pub record HasTooMany (case : Workload) (jobs : ℕ) : Type 0 where
   pub all : jobs ≡ accesses_of case
   pub many : most_jobs < jobs
 
-abbrev pub Tells : Workload → PlanFault → Type 0
-Tells case (TooManyJobs jobs) = HasTooMany case jobs
-Tells case _ = ⊤
+abbrev pub IsFaultOf : Workload → PlanFault → Type 0
+IsFaultOf case (TooManyJobs jobs) = HasTooMany case jobs
+IsFaultOf case _ = ⊤
 
 -- Where two workloads have one box and one depth, and a player has one script in both, the same is planned for it.
 abbrev pub DependsOnTheScript : Workload → Workload → ℕ → Type 0

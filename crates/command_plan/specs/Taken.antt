@@ -6,7 +6,7 @@ use Rattle.edit_terms.specs.Area.{Area}
 use Rattle.run_terms.specs.Session.{Session, session_after}
 use Rattle.run_terms.specs.SessionLimits.{IsSessionWithin}
 use Rattle.command_plan.specs.declared.footprint.Footprint.{Footprint}
-use Rattle.command_plan.specs.Courses.{IsResolved}
+use Rattle.command_plan.specs.ResolvedScripts.{IsResolved}
 
 -- the session took the first commands, and they are resolved
 pub record IsTaken (area : Area) (player depth : ℕ) (lines : List Line) (count : ℕ) (session : Session) (steps : List Step) (footprints : List Footprint) : Type 0 where

@@ -4,9 +4,9 @@ ghost use Rattle.std.specs.Prelude.{◌≡◌, ℕ, ◌≤◌, pos, negsuc, ◌+
 ghost use Rattle.edit_terms.specs.Area.{Area, offset, sixteenth};
 ghost use Rattle.region_shapes.specs.Extents.{extent_of, IsPartOfMap};
 ghost use Rattle.command_plan.specs.Cuts.{IsCutRun, IsCutOf};
-ghost use Rattle.command_plan.specs.Rectangles.{floor_of, IsFloor};
+ghost use Rattle.command_plan.specs.Rectangles.{chunk_grid_of, IsChunkGrid};
 
-use crate::rectangle::{Floor, Rectangle, Run};
+use crate::rectangle::{ChunkGrid, Rectangle, Run};
 use edit_terms::WorldBox;
 use region_shapes::{Extent, Interval, common, extent_of, is_empty};
 
@@ -74,13 +74,13 @@ fn cut_run(interval: &Interval, own: &Interval) -> Option<Run>
 }
 
 /// The columns of chunks of a world's box.
-#[tactic(auto, using(crate::proofs::CutLemmas::floor_is))]
-pub(crate) fn floor_of(area: &WorldBox) -> Floor
-    ensures value { result ≡ floor_of area.now }
-    ensures floor { IsFloor (floor_of area.now) }
+#[tactic(auto, using(crate::proofs::CutLemmas::chunk_grid_is))]
+pub(crate) fn chunk_grid_of(area: &WorldBox) -> ChunkGrid
+    ensures value { result ≡ chunk_grid_of area.now }
+    ensures grid { IsChunkGrid (chunk_grid_of area.now) }
 {
     area.well_formed();
-    Floor {
+    ChunkGrid {
         columns: area.chunk_columns(),
         rows: area.chunk_rows(),
     }

@@ -7,93 +7,109 @@ ghost use Rattle.edit_terms.specs.Clipboard.{clip_box_of};
 ghost use Rattle.edit_terms.specs.Frame.{frame_of, frame_of_selection};
 ghost use Rattle.run_terms.specs.Access.{moved_box, stacked_boxes, single_box, pasted_boxes};
 ghost use Rattle.run_terms.specs.SessionLimits.{IsClipWithin, IsSpecWithin, IsStepWithin};
-ghost use Rattle.command_plan.specs.Cuts.{IsCutOf, IsSpreadOf};
+ghost use Rattle.region_shapes.specs.Extents.{extent_of};
+ghost use Rattle.command_plan.specs.Cuts.{IsCutOf, IsChunkSetOf};
 ghost use Rattle.command_plan.specs.Footprints.{IsFootprint, IsWorkFootprint};
 
+use crate::chunk_set::{nothing, of_one, of_two};
 use crate::cutting::cut;
-use crate::frame::{placed_extent, single_extent};
-use crate::rectangle::{Rectangle, Spread};
-use crate::spread::{nothing, of_one, of_two};
+use crate::rectangle::{ChunkSet, Rectangle};
+use crate::single::single_extent;
 use crate::stacking::{moved, stacked};
-use clipboard_transform::clip_box;
+use clipboard_transform::{clip_box, placed_extent};
 use edit_terms::{Clip, Direction, Pos, Region, Selection, Spec, Step, Work, WorldBox};
-use region_shapes::{frame_of, frame_of_selection};
+use region_shapes::{Extent, frame_of, frame_of_selection};
 
 /// The chunks that a command reads and those that it writes, without those of edits that it takes.
 #[derive(Clone, Copy, Debug, Drop)]
 pub(crate) struct Footprint {
-    pub(crate) reads: Spread,
-    pub(crate) writes: Spread,
+    pub(crate) reads: ChunkSet,
+    pub(crate) writes: ChunkSet,
 }
 
-fn filled(region: &Region, area: &WorldBox) -> Spread
-    ensures { IsSpreadOf area.now (frame_of region.now ∷ []) result }
+/// The chunks in which a position of an extent lies.
+fn extent_chunks(extent: &Extent, area: &WorldBox) -> ChunkSet
+    ensures { (box : Area) → extent.now ≡ extent_of box → IsChunkSetOf area.now (box ∷ []) result }
 {
-    of_one(cut(&frame_of(region), area))
+    of_one(cut(extent, area))
 }
 
-fn selected(from: &Selection, area: &WorldBox) -> Option<Rectangle>
+fn filled_chunks(region: &Region, area: &WorldBox) -> ChunkSet
+    ensures { IsChunkSetOf area.now (frame_of region.now ∷ []) result }
+{
+    extent_chunks(&frame_of(region), area)
+}
+
+fn selected_rectangle(from: &Selection, area: &WorldBox) -> Option<Rectangle>
     ensures { IsCutOf area.now (frame_of_selection from.now ∷ []) result }
 {
     cut(&frame_of_selection(from), area)
 }
 
-fn selected_spread(from: &Selection, area: &WorldBox) -> Spread
-    ensures { IsSpreadOf area.now (frame_of_selection from.now ∷ []) result }
+fn selected_chunks(from: &Selection, area: &WorldBox) -> ChunkSet
+    ensures { IsChunkSetOf area.now (frame_of_selection from.now ∷ []) result }
 {
-    of_one(selected(from, area))
+    extent_chunks(&frame_of_selection(from), area)
 }
 
-fn target(from: &Selection, to: Direction, count: u32, area: &WorldBox) -> Option<Rectangle>
+fn target_rectangle(
+    from: &Selection,
+    to: Direction,
+    count: u32,
+    area: &WorldBox,
+) -> Option<Rectangle>
     ensures { IsCutOf area.now (moved_box to count (frame_of_selection from.now) ∷ []) result }
 {
     cut(&moved(&frame_of_selection(from), to, count), area)
 }
 
-fn moved_spread(from: &Selection, to: Direction, count: u32, area: &WorldBox) -> Spread
-    ensures { IsSpreadOf area.now (frame_of_selection from.now ∷ moved_box to count (frame_of_selection from.now) ∷ []) result }
+fn moved_chunks(from: &Selection, to: Direction, count: u32, area: &WorldBox) -> ChunkSet
+    ensures { IsChunkSetOf area.now (frame_of_selection from.now ∷ moved_box to count (frame_of_selection from.now) ∷ []) result }
 {
-    of_two(selected(from, area), target(from, to, count, area))
+    of_two(
+        selected_rectangle(from, area),
+        target_rectangle(from, to, count, area),
+    )
 }
 
-fn copies(from: &Selection, to: Direction, count: u32, area: &WorldBox) -> Spread
+fn stacked_chunks(from: &Selection, to: Direction, count: u32, area: &WorldBox) -> ChunkSet
     requires { count ≤ 1000 }
-    ensures { IsSpreadOf area.now (stacked_boxes count to (frame_of_selection from.now)) result }
+    ensures { IsChunkSetOf area.now (stacked_boxes count to (frame_of_selection from.now)) result }
 {
-    of_one(cut(&stacked(&frame_of_selection(from), to, count), area))
+    extent_chunks(&stacked(&frame_of_selection(from), to, count), area)
 }
 
-fn single(at: &Pos, area: &WorldBox) -> Spread
-    ensures { IsSpreadOf area.now (single_box at.now ∷ []) result }
+fn single_chunk(at: &Pos, area: &WorldBox) -> ChunkSet
+    ensures { IsChunkSetOf area.now (single_box at.now ∷ []) result }
 {
-    of_one(cut(&single_extent(at), area))
+    extent_chunks(&single_extent(at), area)
 }
 
 #[tactic(auto, using(clipboard_transform::proofs::MapLemmas::on_map))]
-fn pasted_clip(place: &Pos, clip: &Clip, area: &WorldBox) -> Spread
+fn clip_chunks(place: &Pos, clip: &Clip, area: &WorldBox) -> ChunkSet
     requires { IsClipWithin clip.now }
-    ensures { IsSpreadOf area.now (pasted_boxes place.now (clip_box_of clip.now area.now)) result }
+    ensures { IsChunkSetOf area.now (pasted_boxes place.now (clip_box_of clip.now area.now)) result }
 {
     match clip_box(clip, area) {
         None => nothing(),
-        Some(bounds) => of_one(cut(&placed_extent(place, &bounds), area)),
+        Some(bounds) => extent_chunks(&placed_extent(place, &bounds), area),
     }
 }
 
-fn pasted(place: &Pos, clip: &Option<Clip>, area: &WorldBox) -> Spread
+fn pasted_chunks(place: &Pos, clip: &Option<Clip>, area: &WorldBox) -> ChunkSet
     requires { IfSome clip.now IsClipWithin }
-    ensures { IsSpreadOf area.now (pasted_boxes place.now (option_and_then (λ c. clip_box_of c area.now) clip.now)) result }
+    ensures { IsChunkSetOf area.now (pasted_boxes place.now (option_and_then (λ c. clip_box_of c area.now) clip.now)) result }
 {
     match clip {
         None => nothing(),
-        Some(clip) => pasted_clip(place, clip, area),
+        Some(clip) => clip_chunks(place, clip, area),
     }
 }
 
 /// No chunk.
 fn untouched() -> Footprint
-    ensures reads { (area : Area) → IsSpreadOf area [] result.reads }
-    ensures writes { (area : Area) → IsSpreadOf area [] result.writes }
+    ensures reads { (area : Area) → IsChunkSetOf area [] result.reads }
+    ensures writes { (area : Area) → IsChunkSetOf area [] result.writes }
 {
     Footprint {
         reads: nothing(),
@@ -109,31 +125,31 @@ fn of_spec(spec: &Spec, area: &WorldBox) -> Footprint
     match &spec.work {
         Work::Fill { region, .. } => Footprint {
             reads: nothing(),
-            writes: filled(region, area),
+            writes: filled_chunks(region, area),
         },
         Work::Stack { from, count, to } => Footprint {
-            reads: selected_spread(from, area),
-            writes: copies(from, *to, *count, area),
+            reads: selected_chunks(from, area),
+            writes: stacked_chunks(from, *to, *count, area),
         },
         Work::Move { from, count, to } => Footprint {
-            reads: selected_spread(from, area),
-            writes: moved_spread(from, *to, *count, area),
+            reads: selected_chunks(from, area),
+            writes: moved_chunks(from, *to, *count, area),
         },
         Work::Copy { from } => Footprint {
-            reads: selected_spread(from, area),
+            reads: selected_chunks(from, area),
             writes: nothing(),
         },
         Work::Cut { from } => Footprint {
-            reads: selected_spread(from, area),
-            writes: selected_spread(from, area),
+            reads: selected_chunks(from, area),
+            writes: selected_chunks(from, area),
         },
         Work::Paste { place, .. } => Footprint {
             reads: nothing(),
-            writes: pasted(place, &spec.clip, area),
+            writes: pasted_chunks(place, &spec.clip, area),
         },
         Work::Put { at, .. } => Footprint {
             reads: nothing(),
-            writes: single(at, area),
+            writes: single_chunk(at, area),
         },
         Work::Undo { .. } => untouched(),
         Work::Redo { .. } => untouched(),

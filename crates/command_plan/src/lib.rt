@@ -4,10 +4,9 @@
 //! and a workload with too many of them is refused before any list is built.
 #![tactic(auto)]
 
-mod course;
+mod chunk_set;
 mod cutting;
 mod footprint;
-mod frame;
 mod laws;
 mod listing;
 mod marks;
@@ -16,7 +15,8 @@ mod plan_fault;
 mod planned;
 mod players;
 mod rectangle;
-mod spread;
+mod resolved_script;
+mod single;
 mod stacking;
 mod writes;
 

@@ -2,12 +2,12 @@
 
 ghost use Rattle.std.specs.Prelude.{◌≡◌, ℕ, ◌+◌, ◌*◌, ◌<◌, ◌≤◌, ◌||◌, ◌&&◌, ◌∷◌, nat_le, nat_lt, false, All, IfOk, List, count_by, filter, get_or, length};
 ghost use Rattle.std.specs.List.{list_any, range_with_len};
-ghost use Rattle.command_plan.specs.Courses.{AreInside, is_written, no_footprint, marked};
-ghost use Rattle.command_plan.specs.Rectangles.{IsFloor, IsInside, IsSpreadInside, covers, is_spread_over};
+ghost use Rattle.command_plan.specs.ResolvedScripts.{AreInside, is_written, no_footprint, marked};
+ghost use Rattle.command_plan.specs.Rectangles.{IsChunkGrid, IsInside, IsSetInside, covers, is_in_set};
 
 use crate::footprint::Footprint;
 use crate::listing::{no_chunks, push_if};
-use crate::rectangle::{Floor, Rectangle, Spread};
+use crate::rectangle::{ChunkGrid, ChunkSet, Rectangle};
 use memory::Memory;
 use std::alloc::Global;
 
@@ -31,59 +31,59 @@ fn mark_run(marks: &mut [bool], from: u32, to: u32)
     }
 }
 
-fn mark_rectangle(marks: &mut [bool], floor: &Floor, r: &Rectangle)
-    requires floor { IsFloor floor.now }
-    requires inside { IsInside floor.now r.now }
-    requires marks { length marks.old ≡ floor.now.columns * floor.now.rows }
-    ensures { (k : ℕ) → get_or marks.new k false ≡ (get_or marks.old k false || covers floor.now.columns r.now k) }
+fn mark_rectangle(marks: &mut [bool], grid: &ChunkGrid, r: &Rectangle)
+    requires grid { IsChunkGrid grid.now }
+    requires inside { IsInside grid.now r.now }
+    requires marks { length marks.old ≡ grid.now.columns * grid.now.rows }
+    ensures { (k : ℕ) → get_or marks.new k false ≡ (get_or marks.old k false || covers grid.now.columns r.now k) }
 {
     for row in r.z.from..r.z.to {
-        let start = row * floor.columns;
+        let start = row * grid.columns;
         mark_run(marks, r.x.from + start, r.x.to + start);
     }
 }
 
-fn mark_spread(marks: &mut [bool], floor: &Floor, s: &Spread)
-    requires floor { IsFloor floor.now }
-    requires inside { IsSpreadInside floor.now s.now }
-    requires marks { length marks.old ≡ floor.now.columns * floor.now.rows }
-    ensures { (k : ℕ) → get_or marks.new k false ≡ (get_or marks.old k false || is_spread_over floor.now.columns s.now k) }
+fn mark_set(marks: &mut [bool], grid: &ChunkGrid, s: &ChunkSet)
+    requires grid { IsChunkGrid grid.now }
+    requires inside { IsSetInside grid.now s.now }
+    requires marks { length marks.old ≡ grid.now.columns * grid.now.rows }
+    ensures { (k : ℕ) → get_or marks.new k false ≡ (get_or marks.old k false || is_in_set grid.now.columns s.now k) }
 {
-    mark_rectangle(marks, floor, &s.first);
-    mark_rectangle(marks, floor, &s.second);
+    mark_rectangle(marks, grid, &s.first);
+    mark_rectangle(marks, grid, &s.second);
 }
 
 /// Marks what these commands write by themselves.
-fn mark_writes(marks: &mut [bool], floor: &Floor, footprints: &[Footprint], commands: &[u32])
-    requires floor { IsFloor floor.now }
-    requires inside { AreInside floor.now footprints.now }
+fn mark_writes(marks: &mut [bool], grid: &ChunkGrid, footprints: &[Footprint], commands: &[u32])
+    requires grid { IsChunkGrid grid.now }
+    requires inside { AreInside grid.now footprints.now }
     requires commands { All (λ n. n < length footprints.now) commands.now }
-    requires marks { length marks.old ≡ floor.now.columns * floor.now.rows }
-    ensures { (k : ℕ) → get_or marks.new k false ≡ (get_or marks.old k false || is_written floor.now.columns footprints.now commands.now k) }
+    requires marks { length marks.old ≡ grid.now.columns * grid.now.rows }
+    ensures { (k : ℕ) → get_or marks.new k false ≡ (get_or marks.old k false || is_written grid.now.columns footprints.now commands.now k) }
 {
     for command in commands {
-        mark_spread(marks, floor, &footprints[*command as usize].writes);
+        mark_set(marks, grid, &footprints[*command as usize].writes);
     }
 }
 
 /// Marks exactly what a command and those that it takes write.
 pub(crate) fn mark_command(
     marks: &mut [bool],
-    floor: &Floor,
+    grid: &ChunkGrid,
     footprints: &[Footprint],
     command: u32,
     taken: &[u32],
 )
-    requires floor { IsFloor floor.now }
-    requires inside { AreInside floor.now footprints.now }
+    requires grid { IsChunkGrid grid.now }
+    requires inside { AreInside grid.now footprints.now }
     requires own { command < length footprints.now }
     requires taken { All (λ n. n < length footprints.now) taken.now }
-    requires marks { length marks.old ≡ floor.now.columns * floor.now.rows }
-    ensures { (k : ℕ) → get_or marks.new k false ≡ is_written floor.now.columns footprints.now (command ∷ taken.now) k }
+    requires marks { length marks.old ≡ grid.now.columns * grid.now.rows }
+    ensures { (k : ℕ) → get_or marks.new k false ≡ is_written grid.now.columns footprints.now (command ∷ taken.now) k }
 {
     clear(marks);
-    mark_spread(marks, floor, &footprints[command as usize].writes);
-    mark_writes(marks, floor, footprints, taken);
+    mark_set(marks, grid, &footprints[command as usize].writes);
+    mark_writes(marks, grid, footprints, taken);
 }
 
 fn true_count(marks: &[bool]) -> usize

@@ -6,12 +6,12 @@ ghost use Rattle.edit_terms.specs.declared.clip.Source.{Source};
 ghost use Rattle.run_terms.specs.Access.{accesses_of};
 ghost use Rattle.run_terms.specs.Limits.{IsWithinLimits};
 ghost use Rattle.run_terms.specs.Workload.{workload_of};
-ghost use Rattle.command_plan.specs.Plan.{PlanView, plan_of, planned_in, jobs_of, most_jobs, Tells};
+ghost use Rattle.command_plan.specs.Plan.{PlanView, plan_of, planned_in, jobs_of, most_jobs, IsFaultOf};
 
-use crate::cutting::floor_of;
+use crate::cutting::chunk_grid_of;
 use crate::plan_fault::PlanFault;
 use crate::planned::Planned;
-use crate::players::{all_accesses, all_courses, all_planned};
+use crate::players::{all_accesses, all_planned, all_resolved};
 use edit_terms::{Case, Source, WorldBox};
 use std::alloc::Global;
 use std::marker::Model;
@@ -44,16 +44,16 @@ impl Plan {
         requires { IsWithinLimits (workload_of case.now) }
         ensures plan { IfOk result (λ plan. plan ≡ plan_of (workload_of case.now)) }
         ensures few { IfOk result (λ plan. accesses_of (workload_of case.now) ≤ most_jobs) }
-        ensures fault { IfErr result (Tells (workload_of case.now)) }
+        ensures fault { IfErr result (IsFaultOf (workload_of case.now)) }
     {
         let area = *case.opening.area();
-        let floor = floor_of(&area);
-        let courses = all_courses(alloc, case)?;
-        let jobs = all_accesses(alloc, case, &floor, &courses)?;
+        let grid = chunk_grid_of(&area);
+        let scripts = all_resolved(alloc, case)?;
+        let jobs = all_accesses(alloc, case, &grid, &scripts)?;
         if jobs > 16_777_216 {
             return Err(PlanFault::TooManyJobs { jobs });
         }
-        let players = all_planned(alloc, case, &floor, courses)?;
+        let players = all_planned(alloc, case, &grid, scripts)?;
         Ok(Plan {
             area,
             seed: case.seed,

@@ -3,14 +3,14 @@
 ghost use Rattle.std.specs.Prelude.{◌≡◌, ℕ, ◌*◌, ◌<◌, ◌≤◌, ◌==◌, ◌||◌, false, Bool, All, IfOk, get_or, length, map};
 ghost use Rattle.std.specs.List.{list_any, range_with_len};
 ghost use Rattle.run_terms.specs.Fold.{edits_taken_by};
-ghost use Rattle.command_plan.specs.Courses.{AreInside, AreOfEarlier, IsSound, is_taken, keeps_at};
-ghost use Rattle.command_plan.specs.PlannedCourses.{planned_at, planned_with};
-ghost use Rattle.command_plan.specs.Rectangles.{IsFloor};
+ghost use Rattle.command_plan.specs.ResolvedScripts.{AreInside, AreOfEarlier, IsSound, is_taken, keeps_at};
+ghost use Rattle.command_plan.specs.PlannedScripts.{planned_at, planned_with};
+ghost use Rattle.command_plan.specs.Rectangles.{IsChunkGrid};
 
-use crate::course::{Course, edits_of};
 use crate::footprint::Footprint;
-use crate::listing::spread_chunks;
-use crate::rectangle::Floor;
+use crate::listing::listed_chunks;
+use crate::rectangle::ChunkGrid;
+use crate::resolved_script::{ResolvedScript, edits_of};
 use crate::writes::written_chunks;
 use edit_terms::{Items, Step};
 use memory::Memory;
@@ -74,21 +74,21 @@ fn kept(alloc: Global, steps: &[Step]) -> Result<Vec<bool>, Memory>
 fn plan_command(
     alloc: Global,
     marks: &mut [bool],
-    floor: &Floor,
+    grid: &ChunkGrid,
     footprints: &[Footprint],
     number: u32,
     step: Step,
     keeps: bool,
 ) -> Result<Planned, Memory>
-    requires floor { IsFloor floor.now }
-    requires inside { AreInside floor.now footprints.now }
+    requires grid { IsChunkGrid grid.now }
+    requires inside { AreInside grid.now footprints.now }
     requires number { number < length footprints.now }
     requires taken { All (λ n. n < length footprints.now) (edits_taken_by step) }
-    requires marks { length marks.old ≡ floor.now.columns * floor.now.rows }
-    ensures { IfOk result (λ planned. planned ≡ planned_with floor.now footprints.now number step keeps) }
+    requires marks { length marks.old ≡ grid.now.columns * grid.now.rows }
+    ensures { IfOk result (λ planned. planned ≡ planned_with grid.now footprints.now number step keeps) }
 {
-    let reads = spread_chunks(alloc, floor, &footprints[number as usize].reads)?;
-    let writes = written_chunks(alloc, marks, floor, footprints, number, edits_of(&step))?;
+    let reads = listed_chunks(alloc, grid, &footprints[number as usize].reads)?;
+    let writes = written_chunks(alloc, marks, grid, footprints, number, edits_of(&step))?;
     Ok(Planned {
         step,
         reads: Items::from_vec(reads),
@@ -98,44 +98,44 @@ fn plan_command(
 }
 
 /// What is planned for a player.
-pub(crate) fn planned_course(
+pub(crate) fn planned_script(
     alloc: Global,
     marks: &mut [bool],
-    floor: &Floor,
-    course: Course,
+    grid: &ChunkGrid,
+    script: ResolvedScript,
 ) -> Result<Vec<Planned>, Memory>
-    requires floor { IsFloor floor.now }
-    requires sound { IsSound floor.now course.steps.items course.footprints.items }
-    requires few { length course.steps.items ≤ 10000 }
-    requires marks { length marks.old ≡ floor.now.columns * floor.now.rows }
-    ensures { IfOk result (λ commands. commands.items ≡ map (planned_at floor.now course.steps.items course.footprints.items) (range_with_len 0 (length course.steps.items))) }
+    requires grid { IsChunkGrid grid.now }
+    requires sound { IsSound grid.now script.steps.items script.footprints.items }
+    requires few { length script.steps.items ≤ 10000 }
+    requires marks { length marks.old ≡ grid.now.columns * grid.now.rows }
+    ensures { IfOk result (λ commands. commands.items ≡ map (planned_at grid.now script.steps.items script.footprints.items) (range_with_len 0 (length script.steps.items))) }
 {
-    let Course { steps, footprints } = course;
+    let ResolvedScript { steps, footprints } = script;
     let keeps = kept(alloc, &steps)?;
-    Ok(planned_steps(alloc, marks, floor, &footprints, &keeps, steps)?)
+    Ok(planned_steps(alloc, marks, grid, &footprints, &keeps, steps)?)
 }
 
 fn planned_steps(
     alloc: Global,
     marks: &mut [bool],
-    floor: &Floor,
+    grid: &ChunkGrid,
     footprints: &[Footprint],
     keeps: &[bool],
     steps: Vec<Step>,
 ) -> Result<Vec<Planned>, Memory>
-    requires floor { IsFloor floor.now }
-    requires sound { IsSound floor.now steps.items footprints.now }
+    requires grid { IsChunkGrid grid.now }
+    requires sound { IsSound grid.now steps.items footprints.now }
     requires few { length steps.items ≤ 10000 }
     requires keeps { length keeps.now ≡ length steps.items }
     requires each { (n : ℕ) → n < length steps.items → get_or keeps.now n false ≡ keeps_at steps.items n }
-    requires marks { length marks.old ≡ floor.now.columns * floor.now.rows }
-    ensures { IfOk result (λ commands. commands.items ≡ map (planned_at floor.now steps.items footprints.now) (range_with_len 0 (length steps.items))) }
+    requires marks { length marks.old ≡ grid.now.columns * grid.now.rows }
+    ensures { IfOk result (λ commands. commands.items ≡ map (planned_at grid.now steps.items footprints.now) (range_with_len 0 (length steps.items))) }
 {
     let mut commands = Vec::with_capacity(alloc, steps.len())?;
     let mut number = 0;
     for step in steps {
         let keep = keeps[number as usize];
-        commands.push(plan_command(alloc, marks, floor, footprints, number, step, keep)?)?;
+        commands.push(plan_command(alloc, marks, grid, footprints, number, step, keep)?)?;
         number += 1;
     }
     Ok(commands)

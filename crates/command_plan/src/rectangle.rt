@@ -2,11 +2,11 @@
 
 ghost use Rattle.std.specs.Prelude.{◌≡◌, ℕ, ◌≤◌, ◌&&◌, ◌⊎◌};
 ghost use Rattle.command_plan.specs.Rectangles.{is_among, IsRunWithin, IsInside, IsPartOf, covers};
-ghost use Rattle.command_plan.specs.declared.rectangle.Floor.{Floor};
+ghost use Rattle.command_plan.specs.declared.rectangle.ChunkGrid.{ChunkGrid};
 
 /// How many columns of chunks a world's box has along x and along z.
 #[derive(Clone, Copy, Debug)]
-pub(crate) struct Floor {
+pub(crate) struct ChunkGrid {
     pub(crate) columns: u32,
     pub(crate) rows: u32,
 }
@@ -27,7 +27,7 @@ pub(crate) struct Rectangle {
 
 /// The chunks of two rectangles, which may be one.
 #[derive(Clone, Copy, Debug)]
-pub(crate) struct Spread {
+pub(crate) struct ChunkSet {
     pub(crate) first: Rectangle,
     pub(crate) second: Rectangle,
 }
@@ -97,7 +97,7 @@ fn hull_run(a: &Run, b: &Run) -> Run
 
 /// The chunks of both.
 pub(crate) fn common(a: &Rectangle, b: &Rectangle) -> Rectangle
-    ensures within { (floor : Floor) → IsInside floor a.now → IsInside floor b.now → IsInside floor result }
+    ensures within { (grid : ChunkGrid) → IsInside grid a.now → IsInside grid b.now → IsInside grid result }
     ensures exact { (columns chunk : ℕ) → covers columns result chunk ≡ (covers columns a.now chunk && covers columns b.now chunk) }
 {
     Rectangle {
@@ -108,7 +108,7 @@ pub(crate) fn common(a: &Rectangle, b: &Rectangle) -> Rectangle
 
 /// A rectangle that has the chunks of both and goes no farther.
 pub(crate) fn hull(a: &Rectangle, b: &Rectangle) -> Rectangle
-    ensures within { (floor : Floor) → IsInside floor a.now → IsInside floor b.now → IsInside floor result }
+    ensures within { (grid : ChunkGrid) → IsInside grid a.now → IsInside grid b.now → IsInside grid result }
     ensures first { IsPartOf a.now result }
     ensures second { IsPartOf b.now result }
 {

@@ -17,7 +17,7 @@ use Rattle.run_terms.proofs.LimitLemmas.{lines_are}
 use Rattle.run_terms.proofs.OrderLemmas.{legal_from_whole, lines_of-past}
 use Rattle.serial_model.specs.declared.plain_error.PlainError.{PlainError}
 use Rattle.serial_model.specs.declared.plain_error.PlainError.TheVariants.{Illegal}
-use Rattle.serial_model.specs.Illegal.{IsFirstIllegal, Tells}
+use Rattle.serial_model.specs.Illegal.{IsFirstIllegal, IsErrorOf}
 use Rattle.serial_model.specs.Outcomes.{IsRunIn}
 
 -- ---- a turn more
@@ -118,8 +118,8 @@ never_illegal scripts order at whole first =
       within = λ player. omega (arith, turns_fewer player (suc at) order, legal.within player);
     })
 
-pub not_illegal : (scripts : List Script) (order : List ℕ) (at : ℕ) (error : PlainError) → IsWholeOrder scripts order → Tells scripts order error → error ≡ Illegal at → ⊥
-not_illegal scripts order at error whole tells is = never_illegal scripts order at whole (subst (λ (e : PlainError). Tells scripts order e) is tells)
+pub not_illegal : (scripts : List Script) (order : List ℕ) (at : ℕ) (error : PlainError) → IsWholeOrder scripts order → IsErrorOf scripts order error → error ≡ Illegal at → ⊥
+not_illegal scripts order at error whole tells is = never_illegal scripts order at whole (subst (λ (e : PlainError). IsErrorOf scripts order e) is tells)
 
 -- a run in a whole order is an outcome
 pub is_outcome : (case : Workload) (order : List ℕ) (outcome : Outcome) → IsWholeOrder case.scripts order → IsRunIn case order outcome → IsOutcome case outcome

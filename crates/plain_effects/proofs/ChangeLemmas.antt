@@ -26,7 +26,9 @@ use Rattle.edit_terms.specs.World.{BlockContent, World, air_content, content_at,
 use Rattle.edit_terms.proofs.AreaLemmas.{block_at_place}
 use Rattle.run_terms.specs.Change.{content_of}
 use Rattle.run_terms.specs.Effect.{Task, scene_of, passes_global, filled, is_source, copy_source, stacked, moved, cut, pasted, put, effect_of, effect_at}
-use Rattle.plain_effects.specs.declared.extent.Extent.{Extent}
+use Rattle.region_shapes.specs.declared.extent.Extent.{Extent}
+use Rattle.region_shapes.specs.Extents.{is_in_extent}
+use Rattle.plain_terms.proofs.MapLemmas.{held_on_map}
 use Rattle.plain_effects.specs.Sections.{is_in_some, HasAll, HasBrought, StaysOutside}
 use Rattle.plain_effects.proofs.Ranges.{find_none}
 
@@ -38,39 +40,43 @@ fails extent test p all out = by_test (test p) refl
     by_test false h = refl
     by_test true h = sym (all p h) ∙ out
 
-drop_true : (a b : Bool) → a ≡ true → (a && b) ≡ false → b ≡ false
-drop_true true b h out = out
-drop_true false b h out = absurd cc
-
--- the same of a block of the box
-fails_in_box : (extent : Option Extent) (w : World) (test : Pos → Bool) (index : ℕ) → is_world_box w.area ≡ true → HasAll extent (λ p. holds w.area p && test p) → index < volume w.area
-    → is_in_some extent (position_of w.area index) ≡ false → test (position_of w.area index) ≡ false
-fails_in_box extent w test index fits all below out =
-    let p = position_of w.area index in
-    drop_true (holds w.area p) (test p) (block_at_place w.area index fits below).held (fails extent (λ q. holds w.area q && test q) p all out)
-
-fill_outside : (extent : Option Extent) (region : Region) (mask : Option Mask) (pattern : Pattern) (task : Task) (w : World) → is_world_box w.area ≡ true
-    → HasAll extent (λ p. holds w.area p && is_inside region p) → StaysOutside extent (filled region mask pattern task w) w
-fill_outside extent region mask pattern task w fits all index below out =
+pub fill_stays : (extent : Option Extent) (region : Region) (mask : Option Mask) (pattern : Pattern) (task : Task) (w : World) → HasAll extent (is_inside region)
+    → StaysOutside extent (filled region mask pattern task w) w
+fill_stays extent region mask pattern task w all index below out =
     let p = position_of w.area index in
     ap (λ (b : Bool). cond (b && is_allowed mask mask_use (scene_of task w) p && passes_global task w p) (pattern_value pattern task.copied task.seed task.ticket p (content_of w index)) (content_of w index))
-    (fails_in_box extent w (is_inside region) index fits all below out)
+    (fails extent (is_inside region) p all out)
 
-cut_outside : (extent : Option Extent) (from : Selection) (task : Task) (w : World) → is_world_box w.area ≡ true
-    → HasAll extent (λ p. holds w.area p && is_inside (Selected from) p) → StaysOutside extent (cut from task w) w
-cut_outside extent from task w fits all index below out =
-    ap (λ (b : Bool). cond (b && passes_global task w (position_of w.area index)) air_content (content_of w index)) (fails_in_box extent w (is_selected from) index fits all below out)
+pub cut_stays : (extent : Option Extent) (from : Selection) (task : Task) (w : World) → HasAll extent (is_inside (Selected from)) → StaysOutside extent (cut from task w) w
+cut_stays extent from task w all index below out =
+    ap (λ (b : Bool). cond (b && passes_global task w (position_of w.area index)) air_content (content_of w index)) (fails extent (is_selected from) (position_of w.area index) all out)
 
 either_stays : (b : Bool) (c : BlockContent) → cond b c c ≡ c
 either_stays true c = refl
 either_stays false c = refl
 
-stack_outside : (extent : Option Extent) (from : Selection) (count : ℕ) (to : Direction) (task : Task) (w : World) → is_world_box w.area ≡ true
-    → HasBrought extent from to w.area → StaysOutside extent (stacked from count to task w) w
-stack_outside extent from count to task w fits brought index below out =
+-- a block of the box outside an extent of all that is brought: no selected one is brought there
+none_brought : (e : Extent) (from : Selection) (to : Direction) (w : World) (index n : ℕ) → is_world_box w.area ≡ true → HasBrought e from to → index < volume w.area
+    → is_in_extent e (position_of w.area index) ≡ false → is_selected from (away to (neg_ℤ (pos n)) (position_of w.area index)) ≡ false
+none_brought e from to w index n fits brought below out = by_test (is_selected from (away to (neg_ℤ (pos n)) p)) refl
+  where
+    p : Pos
+    p = position_of w.area index
+
+    by_test : (b : Bool) → is_selected from (away to (neg_ℤ (pos n)) p) ≡ b → b ≡ false
+    by_test false h = refl
+    by_test true h = sym (brought n p (held_on_map w.area p fits (block_at_place w.area index fits below).held) h) ∙ out
+
+no_source : (a b : Bool) → a ≡ false → (a && b) ≡ false
+no_source a b h = rw h refl
+
+pub stack_stays : (e : Extent) (from : Selection) (count : ℕ) (to : Direction) (task : Task) (w : World) → is_world_box w.area ≡ true → HasBrought e from to
+    → StaysOutside (Some e) (stacked from count to task w) w
+stack_stays e from count to task w fits brought index below out =
     let p = position_of w.area index in
+    let step = size_along to (frame_of_selection from) in
     let none = find_none (is_source from w) (copy_source from to p) 1 count (λ k low high.
-    fails_in_box extent w (λ q. is_source from w (away to (neg_ℤ (pos (k * size_along to (frame_of_selection from)))) q)) index fits (brought (k * size_along to (frame_of_selection from))) below out) in
+    no_source (is_selected from (copy_source from to p k)) (holds w.area (copy_source from to p k)) (none_brought e from to w index (k * step) fits brought below out)) in
     ap (λ (o : Option Pos). cond (passes_global task w p) (option_map_or (content_at w) o (content_of w index)) (content_of w index)) none
     ∙ either_stays (passes_global task w p) (content_of w index)
 
@@ -83,27 +89,16 @@ none_on West p = let e : p.x -ℤ neg_ℤ (pos 0) ≡ p.x = omega (arith, ints) 
 none_on Up p = let e : p.y +ℤ neg_ℤ (pos 0) ≡ p.y = omega (arith, ints) in λ i. record p { y = e i }
 none_on Down p = let e : p.y -ℤ neg_ℤ (pos 0) ≡ p.y = omega (arith, ints) in λ i. record p { y = e i }
 
--- a selected block of the box is among those that are brought no block on
-unselected : (extent : Option Extent) (from : Selection) (to : Direction) (w : World) (index : ℕ) → is_world_box w.area ≡ true → HasBrought extent from to w.area → index < volume w.area
-    → is_in_some extent (position_of w.area index) ≡ false → is_selected from (position_of w.area index) ≡ false
-unselected extent from to w index fits brought below out =
-    let p = position_of w.area index in
-    let source : is_source from w p ≡ false = ap (is_source from w) (sym (none_on to p)) ∙ fails_in_box extent w (λ q. is_source from w (away to (neg_ℤ (pos 0)) q)) index fits (brought 0) below out in
-    drop_second (is_selected from p) (holds w.area p) (block_at_place w.area index fits below).held source
-  where
-    drop_second : (a b : Bool) → b ≡ true → (a && b) ≡ false → a ≡ false
-    drop_second true b h none = sym h ∙ none
-    drop_second false b h none = refl
-
-move_outside : (extent : Option Extent) (from : Selection) (count : ℕ) (to : Direction) (task : Task) (w : World) → is_world_box w.area ≡ true
-    → HasBrought extent from to w.area → StaysOutside extent (moved from count to task w) w
-move_outside extent from count to task w fits brought index below out =
+pub move_stays : (e : Extent) (from : Selection) (count : ℕ) (to : Direction) (task : Task) (w : World) → is_world_box w.area ≡ true → HasBrought e from to
+    → StaysOutside (Some e) (moved from count to task w) w
+move_stays e from count to task w fits brought index below out =
     let p = position_of w.area index in
     let q = away to (neg_ℤ (pos count)) p in
     let old = content_of w index in
-    let comes = fails_in_box extent w (λ r. is_source from w (away to (neg_ℤ (pos count)) r)) index fits (brought count) below out in
+    let comes : is_source from w q ≡ false = no_source (is_selected from q) (holds w.area q) (none_brought e from to w index count fits brought below out) in
+    let leaves : is_selected from p ≡ false = ap (is_selected from) (sym (none_on to p)) ∙ none_brought e from to w index 0 fits brought below out in
     ap (λ (b : Bool). cond (not (passes_global task w p)) old (cond b (content_at w q) (cond (is_selected from p) air_content old))) comes
-    ∙ ap (λ (b : Bool). cond (not (passes_global task w p)) old (cond b air_content old)) (unselected extent from to w index fits brought below out)
+    ∙ ap (λ (b : Bool). cond (not (passes_global task w p)) old (cond b air_content old)) leaves
     ∙ either_stays (not (passes_global task w p)) old
 
 pub paste_stays : (extent : Option Extent) (place : Pos) (skip_air : Bool) (task : Task) (w : World)
@@ -119,28 +114,6 @@ paste_stays extent place skip_air task w all index below out =
 
 pub put_stays : (extent : Option Extent) (at : Pos) (state : State) (w : World) → HasAll extent (is_same_pos at) → StaysOutside extent (put at state w) w
 put_stays extent at state w all index below out = ap (λ (b : Bool). cond b (without_entity state) (content_of w index)) (fails extent (is_same_pos at) (position_of w.area index) all out)
-
--- ---- the same with the box by another name
-
-pub fill_stays : (extent : Option Extent) (region : Region) (mask : Option Mask) (pattern : Pattern) (task : Task) (w : World) (a : Area) → a ≡ w.area → is_world_box a ≡ true
-    → HasAll extent (λ p. holds a p && is_inside region p) → StaysOutside extent (filled region mask pattern task w) w
-fill_stays extent region mask pattern task w a same fits all =
-    fill_outside extent region mask pattern task w (subst (λ (b : Area). is_world_box b ≡ true) same fits) (subst (λ (b : Area). HasAll extent (λ p. holds b p && is_inside region p)) same all)
-
-pub cut_stays : (extent : Option Extent) (from : Selection) (task : Task) (w : World) (a : Area) → a ≡ w.area → is_world_box a ≡ true
-    → HasAll extent (λ p. holds a p && is_inside (Selected from) p) → StaysOutside extent (cut from task w) w
-cut_stays extent from task w a same fits all =
-    cut_outside extent from task w (subst (λ (b : Area). is_world_box b ≡ true) same fits) (subst (λ (b : Area). HasAll extent (λ p. holds b p && is_inside (Selected from) p)) same all)
-
-pub stack_stays : (extent : Option Extent) (from : Selection) (count : ℕ) (to : Direction) (task : Task) (w : World) (a : Area) → a ≡ w.area → is_world_box a ≡ true
-    → HasBrought extent from to a → StaysOutside extent (stacked from count to task w) w
-stack_stays extent from count to task w a same fits brought =
-    stack_outside extent from count to task w (subst (λ (b : Area). is_world_box b ≡ true) same fits) (subst (HasBrought extent from to) same brought)
-
-pub move_stays : (extent : Option Extent) (from : Selection) (count : ℕ) (to : Direction) (task : Task) (w : World) (a : Area) → a ≡ w.area → is_world_box a ≡ true
-    → HasBrought extent from to a → StaysOutside extent (moved from count to task w) w
-move_stays extent from count to task w a same fits brought =
-    move_outside extent from count to task w (subst (λ (b : Area). is_world_box b ≡ true) same fits) (subst (HasBrought extent from to) same brought)
 
 -- ---- the work of a task
 

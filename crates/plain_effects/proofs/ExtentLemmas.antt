@@ -1,5 +1,5 @@
--- The extents have all that a work may change.
-use Rattle.std.proofs.Common.{◌≡◌, ℕ, true, false, ◌&&◌, ℤ, pos, ◌+ℤ◌, ◌-ℤ◌, ◌≤ℤ◌, Some, None, sym, ap, ◌∙◌, subst, arith}
+-- The extents have all that a work may change. A box holds exactly the positions of its extent.
+use Rattle.std.proofs.Common.{◌≡◌, ℕ, true, false, ◌&&◌, ℤ, pos, ◌+ℤ◌, ◌-ℤ◌, ◌≤ℤ◌, ◌<ℤ◌, Some, None, sym, subst, arith}
 use Rattle.std.specs.Prelude.{Option, neg_ℤ, is_some, option_map}
 use Rattle.std.specs.Option.{option_map_or}
 use Rattle.std.specs.Ordering.{int_eq}
@@ -7,72 +7,69 @@ use Rattle.std.specs.Cmp.Derive.{both_true}
 use Rattle.std.proofs.lemmas.Int.{ints}
 use Rattle.edit_terms.specs.declared.clip.Clip.{Clip}
 use Rattle.edit_terms.specs.declared.direction.Direction.{Direction}
+use Rattle.edit_terms.specs.declared.direction.Direction.TheVariants.{North, South, East, West, Up, Down}
 use Rattle.edit_terms.specs.declared.pos.Pos.{Pos}
 use Rattle.edit_terms.specs.declared.region.Region.{Region}
 use Rattle.edit_terms.specs.declared.region.Region.TheVariants.{Selected}
 use Rattle.edit_terms.specs.declared.region.Selection.{Selection}
-use Rattle.edit_terms.specs.Area.{Area, is_from, holds, volume, is_world_box}
-use Rattle.edit_terms.specs.Clipboard.{clip_box_of, clipboard_of, relative_to}
-use Rattle.edit_terms.specs.Frame.{IsRegion, IsSelection, common_box, frame_of}
+use Rattle.edit_terms.specs.Area.{Area, is_from, holds}
+use Rattle.edit_terms.specs.Clipboard.{clip_box_of, clipboard_of, relative_to, placed_at}
+use Rattle.edit_terms.specs.Frame.{IsRegion, IsSelection, frame_of, frame_of_selection}
 use Rattle.edit_terms.specs.Grid.{is_same_pos}
 use Rattle.edit_terms.specs.Neighbour.{away}
 use Rattle.edit_terms.specs.Region.{is_inside, is_selected}
 use Rattle.edit_terms.specs.World.{World}
-use Rattle.edit_terms.proofs.AreaLemmas.{and_both, held_below}
+use Rattle.edit_terms.proofs.AreaLemmas.{and_both}
 use Rattle.edit_terms.proofs.ClipboardLemmas.{cells_in_bounds}
-use Rattle.edit_terms.proofs.RegionLemmas.{framed, in_common_box}
+use Rattle.edit_terms.proofs.RegionLemmas.{framed}
+use Rattle.run_terms.specs.Access.{single_box}
 use Rattle.clipboard_transform.specs.declared.relative_box.RelativeBox.{RelativeBox}
-use Rattle.clipboard_transform.specs.Bounds.{corners, last_from}
-use Rattle.plain_terms.proofs.MapLemmas.{held_on_map}
-use Rattle.plain_effects.specs.declared.extent.Ends.{Ends}
-use Rattle.plain_effects.specs.declared.extent.Extent.{Extent}
-use Rattle.plain_effects.specs.Sections.{is_among, is_in_extent, HasAll, HasBrought, IsEndsOf, IsExtentOf, IsPlaced, IsStripOf}
-use Rattle.plain_effects.proofs.Boxes.{held, from_of_test, test_from_le}
-
--- ---- boxes
-
-among : (low : ℤ) (size : ℕ) (e : Ends) (v : ℤ) → IsEndsOf low size e → is_from low size v ≡ true → is_among e v ≡ true
-among low size e v is h =
-    let inside = from_of_test low size v h in
-    let low_end = inside.from in let high_end = inside.to in
-    let last : v ≤ℤ (low +ℤ pos size -ℤ pos 1) = omega (arith, ints, high_end) in
-    both_true (test_from_le e.from v (subst (λ (b : ℤ). b ≤ℤ v) (sym is.from) low_end)) (test_from_le v e.to (subst (λ (b : ℤ). v ≤ℤ b) (sym is.to) last))
-
-in_extent : (a : Area) (e : Extent) (p : Pos) → IsExtentOf a e → holds a p ≡ true → is_in_extent e p ≡ true
-in_extent a e p is h =
-    let here = held a p h in
-    both_true (both_true (among a.least.x a.width e.x p.x is.x here.x) (among a.least.y a.height e.y p.y is.y here.y)) (among a.least.z a.length e.z p.z is.z here.z)
+use Rattle.clipboard_transform.specs.Bounds.{corners, IsOnMap}
+use Rattle.region_shapes.specs.declared.extent.Extent.{Extent}
+use Rattle.region_shapes.specs.declared.interval.Interval.{Interval}
+use Rattle.region_shapes.specs.Extents.{extent_of, is_in_extent}
+use Rattle.region_shapes.specs.Interval.{is_among, numbers_from}
+use Rattle.plain_effects.specs.Sections.{is_in_some, HasAll, HasBrought, strip_of}
+use Rattle.plain_effects.proofs.Boxes.{held}
 
 -- ---- regions
 
-shared : (region : Region) (a : Area) (p : Pos) → IsRegion region → (holds a p && is_inside region p) ≡ true → holds (common_box (frame_of region) a) p ≡ true
-shared region a p is h =
-    let parts = and_both (holds a p) (is_inside region p) h in
-    in_common_box (frame_of region) a p ∙ both_true (framed region is p parts.1) parts.0
-
-pub nothing_shared : (region : Region) (a : Area) → IsRegion region → volume (common_box (frame_of region) a) ≡ 0 → HasAll None (λ p. holds a p && is_inside region p)
-nothing_shared region a is none p h =
-    let below = held_below (common_box (frame_of region) a) p (shared region a p is h) in
-    absurd (omega (arith, below, none))
-
-pub all_shared : (region : Region) (a b : Area) (e : Extent) → IsRegion region → b ≡ common_box (frame_of region) a → IsExtentOf b e → HasAll (Some e) (λ p. holds a p && is_inside region p)
-all_shared region a b e is same extent p h = in_extent b e p extent (ap (λ (box : Area). holds box p) same ∙ shared region a p is h)
+pub all_framed : (region : Region) (e : Extent) → IsRegion region → e ≡ extent_of (frame_of region) → HasAll (Some e) (is_inside region)
+all_framed region e is same p h = subst (λ (f : Extent). is_in_extent f p ≡ true) (sym same) (framed region is p h)
 
 -- ---- what is brought in a direction
 
-pub nothing_brought : (from : Selection) (to : Direction) (a : Area) → HasAll None (λ p. holds a p && is_inside (Selected from) p) → HasBrought None from to a
-nothing_brought from to a none n p h =
-    let q = away to (neg_ℤ (pos n)) p in
-    let source = and_both (is_selected from q) (holds a q) (and_both (holds a p) (is_selected from q && holds a q) h).1 in
-    none q (both_true source.1 source.0)
+-- what lies in an extent, one axis at a time
+record IsIn (e : Extent) (p : Pos) : Type 0 where
+  x : is_among e.x p.x ≡ true
+  y : is_among e.y p.y ≡ true
+  z : is_among e.z p.z ≡ true
 
-pub all_brought : (from : Selection) (to : Direction) (a : Area) (own strip : Extent) → is_world_box a ≡ true → HasAll (Some own) (λ p. holds a p && is_inside (Selected from) p) → IsStripOf own to strip
-    → HasBrought (Some strip) from to a
-all_brought from to a own strip fits all goes n p h =
-    let q = away to (neg_ℤ (pos n)) p in
-    let parts = and_both (holds a p) (is_selected from q && holds a q) h in
-    let source = and_both (is_selected from q) (holds a q) parts.1 in
-    goes n p (held_on_map a p fits parts.0) (all q (both_true source.1 source.0))
+within : (e : Extent) (p : Pos) → is_in_extent e p ≡ true → IsIn e p
+within e p h =
+    let first = and_both (is_among e.x p.x && is_among e.y p.y) (is_among e.z p.z) h in
+    let two = and_both (is_among e.x p.x) (is_among e.y p.y) first.0 in
+    record { x = two.0; y = two.1; z = first.1 }
+
+-- on an axis along which coordinates fall, and along which they rise
+fallen : (i : Interval) (low : ℤ) (n : ℕ) (v : ℤ) → low ≤ℤ v → is_among i (v -ℤ neg_ℤ (pos n)) ≡ true → is_among (record { from = low; to = i.to }) v ≡ true
+fallen i low n v reach h = grind (arith, ints)
+
+risen : (i : Interval) (end : ℤ) (n : ℕ) (v : ℤ) → v <ℤ end → is_among i (v +ℤ neg_ℤ (pos n)) ≡ true → is_among (record { from = i.from; to = end }) v ≡ true
+risen i end n v reach h = grind (arith, ints)
+
+in_strip : (to : Direction) (e : Extent) (n : ℕ) (p : Pos) → IsOnMap p → is_in_extent e (away to (neg_ℤ (pos n)) p) ≡ true → is_in_extent (strip_of to e) p ≡ true
+in_strip North e n p map h = let is = within e (away North (neg_ℤ (pos n)) p) h in both_true (both_true is.x is.y) (fallen e.z (strip_of North e).z.from n p.z map.least_z is.z)
+in_strip South e n p map h = let is = within e (away South (neg_ℤ (pos n)) p) h in both_true (both_true is.x is.y) (risen e.z (strip_of South e).z.to n p.z map.most_z is.z)
+in_strip East e n p map h = let is = within e (away East (neg_ℤ (pos n)) p) h in both_true (both_true (risen e.x (strip_of East e).x.to n p.x map.most_x is.x) is.y) is.z
+in_strip West e n p map h = let is = within e (away West (neg_ℤ (pos n)) p) h in both_true (both_true (fallen e.x (strip_of West e).x.from n p.x map.least_x is.x) is.y) is.z
+in_strip Up e n p map h = let is = within e (away Up (neg_ℤ (pos n)) p) h in both_true (both_true is.x (risen e.y (strip_of Up e).y.to n p.y map.most_y is.y)) is.z
+in_strip Down e n p map h = let is = within e (away Down (neg_ℤ (pos n)) p) h in both_true (both_true is.x (fallen e.y (strip_of Down e).y.from n p.y map.least_y is.y)) is.z
+
+pub all_brought : (from : Selection) (to : Direction) (own strip : Extent) → IsSelection from → own ≡ extent_of (frame_of_selection from) → strip ≡ strip_of to own → HasBrought strip from to
+all_brought from to own strip is same goes n p map h =
+    subst (λ (e : Extent). is_in_extent e p ≡ true) (sym goes)
+    (in_strip to own n p map (all_framed (Selected from) own is same (away to (neg_ℤ (pos n)) p) h))
 
 -- ---- clipboards
 
@@ -83,41 +80,37 @@ nothing_copied clip w place is none p h = by_bounds (clip_box_of clip w.area) no
     by_bounds None e inside = inside
     by_bounds (Some bounds) e inside = absurd cc
 
-placed_among : (place low : ℤ) (size : ℕ) (e : Ends) (v : ℤ) → e.from ≡ place +ℤ low → e.to ≡ place +ℤ last_from low size → is_from low size (v -ℤ place) ≡ true → is_among e v ≡ true
-placed_among place low size e v from to h =
-    let inside = from_of_test low size (v -ℤ place) h in
-    let low_end = inside.from in let high_end = inside.to in
-    let first : (place +ℤ low) ≤ℤ v = omega (arith, ints, low_end) in
-    let last : v ≤ℤ (place +ℤ last_from low size) = omega (arith, ints, high_end) in
-    both_true (test_from_le e.from v (subst (λ (b : ℤ). b ≤ℤ v) (sym from) first)) (test_from_le v e.to (subst (λ (b : ℤ). v ≤ℤ b) (sym to) last))
+from_place : (place low : ℤ) (size : ℕ) (v : ℤ) → is_from low size (v -ℤ place) ≡ true → is_from (place +ℤ low) size v ≡ true
+from_place place low size v h = grind (arith, ints)
 
-placed_extent : (place : Pos) (bounds : Area) (e : Extent) (p : Pos) → IsPlaced place (corners bounds) e → holds bounds (relative_to place p) ≡ true → is_in_extent e p ≡ true
-placed_extent place bounds e p is h =
-    let here = held bounds (relative_to place p) h in
-    both_true (both_true (placed_among place.x bounds.least.x bounds.width e.x p.x is.from_x is.to_x here.x) (placed_among place.y bounds.least.y bounds.height e.y p.y is.from_y is.to_y here.y))
-    (placed_among place.z bounds.least.z bounds.length e.z p.z is.from_z is.to_z here.z)
+-- a position of a box, counted from a place, lies in the box at that place
+held_placed : (place : Pos) (a : Area) (p : Pos) → holds a (relative_to place p) ≡ true → holds (record a { least = placed_at place a.least }) p ≡ true
+held_placed place a p h =
+    let s = held a (relative_to place p) h in
+    both_true (both_true (from_place place.x a.least.x a.width p.x s.x) (from_place place.y a.least.y a.height p.y s.y)) (from_place place.z a.least.z a.length p.z s.z)
 
-pub all_copied : (clip : Clip) (w : World) (place : Pos) (b : RelativeBox) (e : Extent) → IsSelection clip.from → Some b ≡ option_map corners (clip_box_of clip w.area) → IsPlaced place b e
-    → HasAll (Some e) (λ p. is_some ((clipboard_of clip w).at (relative_to place p)))
+pub all_copied : (clip : Clip) (w : World) (place : Pos) (b : RelativeBox) (e : Extent) → IsSelection clip.from → Some b ≡ option_map corners (clip_box_of clip w.area)
+    → ((box : Area) → b ≡ corners box → e ≡ extent_of (record box { least = placed_at place box.least })) → HasAll (Some e) (λ p. is_some ((clipboard_of clip w).at (relative_to place p)))
 all_copied clip w place b e is some placed p h = by_bounds (clip_box_of clip w.area) some (cells_in_bounds clip w is (relative_to place p) h)
   where
     by_bounds : (o : Option Area) → Some b ≡ option_map corners o → option_map_or (λ (bounds : Area). holds bounds (relative_to place p)) o false ≡ true → is_in_extent e p ≡ true
     by_bounds None f inside = absurd cc
     by_bounds (Some bounds) f inside =
         let same : b ≡ corners bounds = cc in
-        placed_extent place bounds e p (subst (λ (box : RelativeBox). IsPlaced place box e) same placed) inside
+        let at : e ≡ extent_of (record bounds { least = placed_at place bounds.least }) = placed bounds same in
+        subst (λ (f : Extent). is_in_extent f p ≡ true) (sym at) (held_placed place bounds p inside)
 
 -- ---- single positions
 
-same_among : (v : ℤ) (e : Ends) (u : ℤ) → e.from ≡ v → e.to ≡ v → int_eq v u ≡ true → is_among e u ≡ true
-same_among v e u from to h =
-    let is : v ≡ u = grind (arith, ints) in
-    let low : v ≤ℤ u = omega (arith, ints, is) in
-    let high : u ≤ℤ v = omega (arith, ints, is) in
-    both_true (test_from_le e.from u (subst (λ (b : ℤ). b ≤ℤ u) (sym from) low)) (test_from_le u e.to (subst (λ (b : ℤ). u ≤ℤ b) (sym to) high))
+same_among : (u v : ℤ) → int_eq u v ≡ true → is_among (numbers_from u 1) v ≡ true
+same_among u v h = let e : u ≡ v = grind (arith, ints) in subst (λ (c : ℤ). is_among (numbers_from u 1) c ≡ true) e (own u)
+  where
+    own : (u : ℤ) → is_among (numbers_from u 1) u ≡ true
+    own u = grind (arith, ints)
 
-pub has_single : (at : Pos) (e : Extent) → e.x.from ≡ at.x → e.x.to ≡ at.x → e.y.from ≡ at.y → e.y.to ≡ at.y → e.z.from ≡ at.z → e.z.to ≡ at.z → HasAll (Some e) (is_same_pos at)
-has_single at e from_x to_x from_y to_y from_z to_z p h =
+pub has_single : (at : Pos) (e : Extent) → e ≡ extent_of (single_box at) → HasAll (Some e) (is_same_pos at)
+has_single at e is p h =
     let first = and_both (int_eq at.x p.x && int_eq at.y p.y) (int_eq at.z p.z) h in
     let two = and_both (int_eq at.x p.x) (int_eq at.y p.y) first.0 in
-    both_true (both_true (same_among at.x e.x p.x from_x to_x two.0) (same_among at.y e.y p.y from_y to_y two.1)) (same_among at.z e.z p.z from_z to_z first.1)
+    subst (λ (f : Extent). is_in_extent f p ≡ true) (sym is)
+    (both_true (both_true (same_among at.x p.x two.0) (same_among at.y p.y two.1)) (same_among at.z p.z first.1))

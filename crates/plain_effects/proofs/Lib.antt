@@ -2,12 +2,11 @@ mod Ranges
 mod Boxes
 mod SectionLemmas
 mod VisitLemmas
-mod StripLemmas
 mod ExtentLemmas
 mod ChangeLemmas
 mod FillLemmas
 mod PasteLemmas
 mod MoveLemmas
 mod StackLemmas
-mod Roots
+mod SizeLemmas
 mod ProposalLemmas

@@ -1,16 +1,19 @@
 -- What a paste puts at a position.
-use Rattle.std.proofs.Common.{◌≡◌, ℕ, Bool, true, false, ◌&&◌, cond, refl, sym, ap, ◌∙◌}
+use Rattle.std.proofs.Common.{◌≡◌, ℕ, Bool, true, false, ◌&&◌, cond, ℤ, ◌+ℤ◌, ◌-ℤ◌, refl, sym, ap, ◌∙◌, arith}
+use Rattle.std.proofs.lemmas.Int.{ints}
 use Rattle.std.specs.Prelude.{Option, Some, None, not}
 use Rattle.std.specs.Option.{option_map_or}
 use Rattle.edit_terms.specs.declared.pos.Pos.{Pos}
 use Rattle.edit_terms.specs.declared.transform.Transform.{Transform}
 use Rattle.edit_terms.specs.declared.clip.Clip.{Clip}
-use Rattle.edit_terms.specs.Area.{holds, position_of, is_world_box}
+use Rattle.edit_terms.specs.Area.{Area, is_from, holds, position_of, is_world_box}
 use Rattle.edit_terms.specs.StateText.{is_air}
 use Rattle.edit_terms.specs.Transform.{turned_position, source_position}
-use Rattle.edit_terms.specs.Clipboard.{CopiedBlocks, clipboard_of, copied_content, relative_to}
+use Rattle.edit_terms.specs.Clipboard.{CopiedBlocks, clipboard_of, copied_content, relative_to, placed_at}
 use Rattle.edit_terms.specs.World.{BlockContent, World}
 use Rattle.clipboard_transform.specs.Bounds.{IsOnMap}
+use Rattle.region_shapes.specs.declared.extent.Extent.{Extent}
+use Rattle.region_shapes.specs.Extents.{extent_of, is_in_extent}
 use Rattle.plain_terms.specs.Copies.{reach}
 use Rattle.plain_terms.proofs.CopyLemmas.{unreachable_outside, original_outside, copied_nothing}
 use Rattle.run_terms.specs.Change.{content_of}
@@ -58,6 +61,16 @@ pub pasted_found : (place : Pos) (skip_air : Bool) (task : Task) (w : World) (in
     → task.copied.at (relative_to place p) ≡ Some c → (skip_air && is_air c.state) ≡ false → pasted place skip_air task w index ≡ c
 pasted_found place skip_air task w index p c is passes some keeps =
     copied_there place skip_air task w index p c is passes some ∙ ap (λ (b : Bool). cond (not b) c (content_of w index)) keeps
+
+-- a position is in reach of a place where it lies among those around it
+around : (place low : ℤ) (size : ℕ) (v : ℤ) → is_from (place +ℤ low) size v ≡ is_from low size (v -ℤ place)
+around place low size v = grind (arith, ints)
+
+held_around : (place : Pos) (a : Area) (p : Pos) → holds (record a { least = placed_at place a.least }) p ≡ holds a (relative_to place p)
+held_around place a p = rw (around place.x a.least.x a.width p.x, around place.y a.least.y a.height p.y, around place.z a.least.z a.length p.z) refl
+
+pub in_reach : (place p : Pos) (near : Extent) (b : Bool) → near ≡ extent_of (record reach { least = placed_at place reach.least }) → b ≡ is_in_extent near p → b ≡ holds reach (relative_to place p)
+in_reach place p near b is test = test ∙ ap (λ (e : Extent). is_in_extent e p) is ∙ held_around place reach p
 
 -- a clipboard has nothing at a relative position that no two positions of the map have
 pub nothing_out_of_reach : (clip : Clip) (w : World) (r : Pos) → is_world_box w.area ≡ true → IsOnMap clip.origin → ((t : Transform) (s : Pos) → turned_position t (source_position t s) ≡ s)

@@ -1,39 +1,21 @@
 -- Where a work may change the world: by coordinates, and by the places of the list of the box's blocks.
-use Rattle.std.specs.Prelude.{◌≡◌, ℕ, ◌-◌, ◌<◌, ◌≤◌, ◌/◌, ◌%◌, ◌*◌, Bool, true, false, ◌&&◌, nat_le, nat_lt, ℤ, pos, neg_ℤ, ◌+ℤ◌, ◌-ℤ◌, int_le, Option}
+use Rattle.std.specs.Prelude.{◌≡◌, ℕ, ◌-◌, ◌<◌, ◌≤◌, ◌/◌, ◌%◌, ◌*◌, Bool, true, false, ◌&&◌, nat_le, nat_lt, pos, negsuc, neg_ℤ, Option}
 use Rattle.std.specs.Option.{option_map_or}
 use Rattle.edit_terms.specs.declared.direction.Direction.{Direction}
+use Rattle.edit_terms.specs.declared.direction.Direction.TheVariants.{North, South, East, West, Up, Down}
 use Rattle.edit_terms.specs.declared.pos.Pos.{Pos}
 use Rattle.edit_terms.specs.declared.region.Selection.{Selection}
-use Rattle.edit_terms.specs.Area.{Area, holds, position_of, volume}
+use Rattle.edit_terms.specs.Area.{Area, position_of, volume}
 use Rattle.edit_terms.specs.Neighbour.{away}
 use Rattle.edit_terms.specs.Region.{is_selected}
 use Rattle.edit_terms.specs.World.{BlockContent, World}
-use Rattle.clipboard_transform.specs.declared.relative_box.RelativeBox.{RelativeBox}
 use Rattle.clipboard_transform.specs.Bounds.{IsOnMap}
+use Rattle.region_shapes.specs.declared.extent.Extent.{Extent}
+use Rattle.region_shapes.specs.declared.interval.Interval.{Interval}
+use Rattle.region_shapes.specs.Extents.{is_in_extent}
 use Rattle.run_terms.specs.Change.{content_of}
-use Rattle.plain_effects.specs.declared.extent.Ends.{Ends}
-use Rattle.plain_effects.specs.declared.extent.Extent.{Extent}
 use Rattle.plain_effects.specs.declared.section.Span.{Span}
 use Rattle.plain_effects.specs.declared.section.Section.{Section}
-
--- the coordinate is one of the two ends or lies between them
-abbrev pub is_among : Ends → ℤ → Bool
-is_among e v = int_le e.from v && int_le v e.to
-
--- the ends are those of so many coordinates from low on
-pub record IsEndsOf (low : ℤ) (size : ℕ) (e : Ends) : Type 0 where
-  pub from : e.from ≡ low
-  pub to : e.to ≡ low +ℤ pos size -ℤ pos 1
-
--- the extent is that of a box
-pub record IsExtentOf (a : Area) (e : Extent) : Type 0 where
-  pub x : IsEndsOf a.least.x a.width e.x
-  pub y : IsEndsOf a.least.y a.height e.y
-  pub z : IsEndsOf a.least.z a.length e.z
-
--- the position lies in the extent
-abbrev pub is_in_extent : Extent → Pos → Bool
-is_in_extent e p = is_among e.x p.x && is_among e.y p.y && is_among e.z p.z
 
 -- there is an extent, and the position lies in it
 abbrev pub is_in_some : Option Extent → Pos → Bool
@@ -47,22 +29,27 @@ HasAll extent test = (p : Pos) → test p ≡ true → is_in_some extent p ≡ t
 abbrev pub StaysOutside : Option Extent → (ℕ → BlockContent) → World → Type 0
 StaysOutside extent to w = (index : ℕ) → index < volume w.area → is_in_some extent (position_of w.area index) ≡ false → to index ≡ content_of w index
 
--- the extent has each position of another, and each that lies any number of blocks on in a direction
-abbrev pub IsStripOf : Extent → Direction → Extent → Type 0
-IsStripOf extent to strip = (n : ℕ) (p : Pos) → IsOnMap p → is_in_extent extent (away to (neg_ℤ (pos n)) p) ≡ true → is_in_extent strip p ≡ true
+-- an extent with all that lies on from it in a direction, up to the map's end
+abbrev pub strip_of : Direction → Extent → Extent
+strip_of North e = record e { z = record { from = negsuc 33554431; to = e.z.to } }
+strip_of South e = record e { z = record { from = e.z.from; to = pos 33554432 } }
+strip_of East e = record e { x = record { from = e.x.from; to = pos 33554432 } }
+strip_of West e = record e { x = record { from = negsuc 33554431; to = e.x.to } }
+strip_of Up e = record e { y = record { from = e.y.from; to = pos 2048 } }
+strip_of Down e = record e { y = record { from = negsuc 2047; to = e.y.to } }
 
--- it has each position of the box to which a selected one of the box is brought so
-abbrev pub HasBrought : Option Extent → Selection → Direction → Area → Type 0
-HasBrought extent from to a = (n : ℕ) → HasAll extent (λ p. holds a p && (is_selected from (away to (neg_ℤ (pos n)) p) && holds a (away to (neg_ℤ (pos n)) p)))
+-- the extent has each position of the map to which a selected one is brought in a direction, however far
+abbrev pub HasBrought : Extent → Selection → Direction → Type 0
+HasBrought e from to = (n : ℕ) (p : Pos) → IsOnMap p → is_selected from (away to (neg_ℤ (pos n)) p) ≡ true → is_in_extent e p ≡ true
 
--- it is that of a box of relative positions at a place
-pub record IsPlaced (place : Pos) (b : RelativeBox) (e : Extent) : Type 0 where
-  pub from_x : e.x.from ≡ place.x +ℤ b.least.x
-  pub to_x : e.x.to ≡ place.x +ℤ b.greatest.x
-  pub from_y : e.y.from ≡ place.y +ℤ b.least.y
-  pub to_y : e.y.to ≡ place.y +ℤ b.greatest.y
-  pub from_z : e.z.from ≡ place.z +ℤ b.least.z
-  pub to_z : e.z.to ≡ place.z +ℤ b.greatest.z
+-- the interval of an extent along a direction
+abbrev pub along : Direction → Extent → Interval
+along North e = e.z
+along South e = e.z
+along East e = e.x
+along West e = e.x
+along Up e = e.y
+along Down e = e.y
 
 -- an offset lies in the span
 abbrev pub is_in_span : Span → ℕ → Bool

@@ -18,7 +18,7 @@ use plain_terms::{Blocks, is_selected};
 use std::alloc::Global;
 
 /// What a cut leaves at a place of the list of the world's blocks. None where it cuts nothing.
-pub(crate) fn cut(
+pub(crate) fn cut_content(
     alloc: Global,
     job: &Job<'_>,
     blocks: &Blocks<'_>,

@@ -7,13 +7,13 @@ ghost use Rattle.run_terms.specs.Change.{content_of};
 ghost use Rattle.run_terms.specs.Effect.{effect_at};
 ghost use Rattle.plain_effects.specs.Jobs.{own_task, IsOfItself, HasFewNoise, HasFewCopies};
 
-use crate::cut::cut;
-use crate::fill::filled;
+use crate::cut::cut_content;
+use crate::fill::fill_content;
 use crate::job::Job;
-use crate::paste::pasted;
-use crate::put::put;
-use crate::shift::moved;
-use crate::stack::stacked;
+use crate::paste::paste_content;
+use crate::put::put_content;
+use crate::shift::move_content;
+use crate::stack::stack_content;
 use edit_terms::{Content, Work};
 use memory::Memory;
 use plain_terms::Blocks;
@@ -39,13 +39,19 @@ pub(crate) fn effect(
             region,
             mask,
             pattern,
-        } => filled(alloc, job, blocks, region, mask.as_ref(), pattern, index),
-        Work::Stack { from, count, to } => stacked(alloc, job, blocks, from, *count, *to, index),
-        Work::Move { from, count, to } => moved(alloc, job, blocks, from, *count, *to, index),
+        } => fill_content(alloc, job, blocks, region, mask.as_ref(), pattern, index),
+        Work::Stack { from, count, to } => stack_content(
+            alloc, job, blocks, from, *count, *to, index,
+        ),
+        Work::Move { from, count, to } => move_content(
+            alloc, job, blocks, from, *count, *to, index,
+        ),
         Work::Copy { .. } => Ok(None),
-        Work::Cut { from } => cut(alloc, job, blocks, from, index),
-        Work::Paste { place, skip_air } => pasted(alloc, job, blocks, place, *skip_air, index),
-        Work::Put { at, state } => put(alloc, blocks, at, state, index),
+        Work::Cut { from } => cut_content(alloc, job, blocks, from, index),
+        Work::Paste { place, skip_air } => paste_content(
+            alloc, job, blocks, place, *skip_air, index,
+        ),
+        Work::Put { at, state } => put_content(alloc, blocks, at, state, index),
         Work::Undo { .. } => Ok(None),
         Work::Redo { .. } => Ok(None),
     }

@@ -20,7 +20,7 @@ use std::alloc::Global;
 
 /// What a fill puts at a place of the list of the world's blocks. None where it doesn't fill.
 #[tactic(auto, using(crate::proofs::FillLemmas::filled_here))]
-pub(crate) fn filled(
+pub(crate) fn fill_content(
     alloc: Global,
     job: &Job<'_>,
     blocks: &Blocks<'_>,

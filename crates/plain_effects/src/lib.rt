@@ -7,17 +7,14 @@
 
 mod air;
 mod changes;
-mod coordinates;
 mod copied;
 mod cut;
 mod effect;
-mod extent;
 mod fill;
 mod fits;
 mod job;
 mod masks;
 mod paste;
-mod placed;
 mod proposing;
 mod put;
 mod relative;

@@ -22,7 +22,7 @@ use std::alloc::Global;
 
 /// What a paste puts at a place of the list of the world's blocks. None where it puts nothing.
 #[tactic(auto, using(crate::proofs::PasteLemmas::pasted_nowhere, crate::proofs::PasteLemmas::pasted_nothing, crate::proofs::PasteLemmas::pasted_skipped, crate::proofs::PasteLemmas::pasted_found))]
-pub(crate) fn pasted(
+pub(crate) fn paste_content(
     alloc: Global,
     job: &Job<'_>,
     blocks: &Blocks<'_>,

@@ -8,7 +8,7 @@ ghost use Rattle.run_terms.specs.Effect.{effect_at};
 ghost use Rattle.world_canvas.specs.Proposals.{Proposal, proposal_at, proposals_for};
 ghost use Rattle.plain_effects.specs.Jobs.{own_task, task_with, IsOfItself, HasFewNoise, HasFewCopies};
 
-use crate::changes::changed;
+use crate::changes::changed_extent;
 use crate::effect::effect;
 use crate::job::Job;
 use crate::section::section_of;
@@ -44,7 +44,7 @@ fn own_proposals(alloc: Global, job: &Job<'_>, blocks: &Blocks<'_>) -> Result<Pr
     requires counts { HasFewCopies job.now.spec.work }
     ensures { IfOk result (λ ps. ps ≡ proposals_for (effect_at (own_task job.now) blocks.now) blocks.now) }
 {
-    let Some(extent) = changed(job, blocks) else {
+    let Some(extent) = changed_extent(job, blocks) else {
         return Ok(Proposals::none(alloc));
     };
     let area = blocks.area();

@@ -13,7 +13,7 @@ use plain_terms::Blocks;
 use std::alloc::Global;
 
 /// What a put sets at a place of the list of the world's blocks. None everywhere else.
-pub(crate) fn put(
+pub(crate) fn put_content(
     alloc: Global,
     blocks: &Blocks<'_>,
     at: &Pos,

@@ -1,10 +1,11 @@
 //! Parts of a box by offsets from its least corner.
-ghost use Rattle.std.specs.Prelude.{◌≡◌, ℕ, ◌<◌, ◌≤◌, true, ◌≤ℤ◌, ◌<ℤ◌, ◌+ℤ◌, ◌-ℤ◌, pos};
-ghost use Rattle.plain_effects.specs.Sections.{is_among, is_in_span, HasExtent, IsSectionOf, IsSpanOf};
+ghost use Rattle.std.specs.Prelude.{◌≡◌, ℕ, true, ◌+ℤ◌, pos};
+ghost use Rattle.region_shapes.specs.Extents.{IsPartOfMap};
+ghost use Rattle.region_shapes.specs.Interval.{is_among, size};
+ghost use Rattle.plain_effects.specs.Sections.{is_in_span, HasExtent, IsSectionOf, IsSpanOf};
 
-use crate::coordinates::extent_of;
-use crate::extent::{Ends, Extent};
 use edit_terms::WorldBox;
+use region_shapes::{Extent, Interval, common, extent_of, is_empty};
 
 /// The offsets from one up to but without another along an axis.
 #[derive(Clone, Copy, Debug)]
@@ -29,49 +30,25 @@ pub(crate) fn section_of(area: &WorldBox, extent: &Extent) -> Section
     area.well_formed();
     let own = extent_of(area);
     Section {
-        x: span_between(&own.x, area.width(), &extent.x),
-        y: span_between(&own.y, area.height(), &extent.y),
-        z: span_between(&own.z, area.length(), &extent.z),
+        x: shared_offsets(&own.x, &extent.x),
+        y: shared_offsets(&own.y, &extent.y),
+        z: shared_offsets(&own.z, &extent.z),
     }
 }
 
-/// The offsets between ends, from the first of so many coordinates on.
-fn span_between(own: &Ends, size: u32, ends: &Ends) -> Span
-    ensures whole { (n : ℕ) → n < size → is_among ends.now (own.now.from +ℤ pos n) ≡ true → is_in_span result n ≡ true }
-    ensures within { IsSpanOf size result }
+/// The offsets, from the first of a box's own coordinates on, of those that an interval has too.
+#[tactic(auto, using(crate::proofs::SectionLemmas::nothing_shared))]
+fn shared_offsets(own: &Interval, interval: &Interval) -> Span
+    requires { IsPartOfMap own.now }
+    ensures whole { (n : ℕ) → is_among own.now (own.now.from +ℤ pos n) ≡ true → is_among interval.now (own.now.from +ℤ pos n) ≡ true → is_in_span result n ≡ true }
+    ensures within { IsSpanOf (size own.now) result }
 {
+    let shared = common(interval, own);
+    if is_empty(&shared) {
+        return Span { from: 0, to: 0 };
+    }
     Span {
-        from: first(own, size, ends),
-        to: end(own, size, ends),
+        from: (shared.from - own.from) as u32,
+        to: (shared.to - own.from) as u32,
     }
-}
-
-/// The first offset that isn't below the ends; the size, if there is none.
-fn first(own: &Ends, size: u32, ends: &Ends) -> u32
-    ensures reached { (n : ℕ) → (ends.now.from -ℤ own.now.from) ≤ℤ pos n → result ≤ n }
-    ensures within { result ≤ size }
-{
-    let offset = ends.from - own.from;
-    if offset <= 0 {
-        return 0;
-    }
-    if offset >= i64::from(size) {
-        return size;
-    }
-    offset as u32
-}
-
-/// The first offset that is above the ends; the size, if there is none.
-fn end(own: &Ends, size: u32, ends: &Ends) -> u32
-    ensures past { (n : ℕ) → n < size → pos n <ℤ (ends.now.to -ℤ own.now.from +ℤ pos 1) → n < result }
-    ensures within { result ≤ size }
-{
-    let offset = ends.to - own.from + 1;
-    if offset <= 0 {
-        return 0;
-    }
-    if offset >= i64::from(size) {
-        return size;
-    }
-    offset as u32
 }

@@ -20,7 +20,7 @@ use std::alloc::Global;
 /// What a move brings to a place of the list of the world's blocks, or the air that it leaves there. None
 /// where the content stays.
 #[tactic(auto, using(crate::proofs::MoveLemmas::moved_nowhere, crate::proofs::MoveLemmas::moved_here, crate::proofs::MoveLemmas::moved_away, crate::proofs::MoveLemmas::moved_nothing))]
-pub(crate) fn moved(
+pub(crate) fn move_content(
     alloc: Global,
     job: &Job<'_>,
     blocks: &Blocks<'_>,

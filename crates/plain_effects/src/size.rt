@@ -1,114 +1,47 @@
 //! How long a selection's bounding box is.
-ghost use Rattle.std.specs.Prelude.{◌≡◌, ◌*◌, ◌+◌, ◌<◌, ◌≤◌, ◌^◌, nat_abs, ◌-ℤ◌};
-ghost use Rattle.edit_terms.specs.Frame.{frame_of_selection, size_along, root, count_between};
-ghost use Rattle.edit_terms.specs.Region.{distance, flat_distance};
+ghost use Rattle.std.specs.Prelude.{◌≡◌, ◌≤◌, ◌^◌};
+ghost use Rattle.edit_terms.specs.Frame.{frame_of_selection, size_along};
+ghost use Rattle.region_shapes.specs.Extents.{IsExtentNear};
+ghost use Rattle.region_shapes.specs.Interval.{size, IsNear};
+ghost use Rattle.plain_effects.specs.Sections.{along};
 
-use edit_terms::{Direction, Kind, Pos, Selection};
+use edit_terms::{Direction, Selection};
+use region_shapes::{Extent, Interval, frame_of_selection};
 
 /// How many blocks the bounding box of a selection has along a direction.
+#[tactic(auto, using(crate::proofs::SizeLemmas::size_of_frame))]
 pub(crate) fn size_along(to: Direction, from: &Selection) -> u64
     ensures value { result ≡ size_along to (frame_of_selection from.now) }
-    ensures small { result ≤ 2 ^ 36 }
+    ensures small { result ≤ 2 ^ 37 }
+{
+    let frame = frame_of_selection(from);
+    size(&along(to, &frame))
+}
+
+/// The interval of an extent along a direction.
+fn along(to: Direction, extent: &Extent) -> Interval
+    requires { IsExtentNear extent.now }
+    ensures value { result ≡ along to extent.now }
+    ensures near { IsNear result }
 {
     match to {
-        Direction::North => length(from),
-        Direction::South => length(from),
-        Direction::East => width(from),
-        Direction::West => width(from),
-        Direction::Up => height(from),
-        Direction::Down => height(from),
+        Direction::North => extent.z,
+        Direction::South => extent.z,
+        Direction::East => extent.x,
+        Direction::West => extent.x,
+        Direction::Up => extent.y,
+        Direction::Down => extent.y,
     }
 }
 
-fn width(from: &Selection) -> u64
-    ensures value { result ≡ (frame_of_selection from.now).width }
-    ensures small { result ≤ 2 ^ 36 }
+/// How many numbers an interval has.
+fn size(interval: &Interval) -> u64
+    requires { IsNear interval.now }
+    ensures value { result ≡ size interval.now }
+    ensures small { result ≤ 2 ^ 37 }
 {
-    let (first, second) = (&from.first, &from.second);
-    match from.kind {
-        Kind::Cuboid => gap_x(first, second) + 1,
-        Kind::Sphere => 2 * root(distance(first, second)) + 1,
-        Kind::Cylinder => 2 * root(flat_distance(first, second)) + 1,
+    if interval.to < interval.from {
+        return 0;
     }
-}
-
-fn height(from: &Selection) -> u64
-    ensures value { result ≡ (frame_of_selection from.now).height }
-    ensures small { result ≤ 2 ^ 36 }
-{
-    let (first, second) = (&from.first, &from.second);
-    match from.kind {
-        Kind::Cuboid => gap_y(first, second) + 1,
-        Kind::Sphere => 2 * root(distance(first, second)) + 1,
-        Kind::Cylinder => gap_y(first, second) + 1,
-    }
-}
-
-fn length(from: &Selection) -> u64
-    ensures value { result ≡ (frame_of_selection from.now).length }
-    ensures small { result ≤ 2 ^ 36 }
-{
-    let (first, second) = (&from.first, &from.second);
-    match from.kind {
-        Kind::Cuboid => gap_z(first, second) + 1,
-        Kind::Sphere => 2 * root(distance(first, second)) + 1,
-        Kind::Cylinder => 2 * root(flat_distance(first, second)) + 1,
-    }
-}
-
-/// The square root, rounded down.
-#[tactic(auto, using(crate::proofs::Roots::root_of, crate::proofs::Roots::root_below))]
-fn root(n: u128) -> u64
-    requires { n < 2 ^ 68 }
-    ensures value { result ≡ root n }
-    ensures small { result < 2 ^ 34 }
-{
-    n.isqrt() as u64
-}
-
-/// The squared distance of two positions over x and z.
-#[tactic(auto, using(edit_terms::proofs::RegionLemmas::flat_squares))]
-fn flat_distance(p: &Pos, q: &Pos) -> u128
-    ensures value { result ≡ nat_abs (flat_distance p.now q.now) }
-    ensures small { result < 2 ^ 66 }
-{
-    square(gap_x(p, q)) + square(gap_z(p, q))
-}
-
-/// The squared distance of two positions.
-#[tactic(auto, using(edit_terms::proofs::RegionLemmas::squares))]
-fn distance(p: &Pos, q: &Pos) -> u128
-    ensures value { result ≡ nat_abs (distance p.now q.now) }
-    ensures small { result < 2 ^ 66 }
-{
-    square(gap_x(p, q)) + square(gap_z(p, q)) + square(gap_y(p, q))
-}
-
-fn square(n: u64) -> u128
-    requires { n ≤ 4294967295 }
-    ensures value { result ≡ n * n }
-    ensures small { result ≤ 18446744065119617025 }
-{
-    u128::from(n) * u128::from(n)
-}
-
-fn gap_x(p: &Pos, q: &Pos) -> u64
-    ensures value { result ≡ nat_abs (p.now.x -ℤ q.now.x) }
-    ensures small { result ≤ 4294967295 }
-{
-    i64::from(p.x).abs_diff(i64::from(q.x))
-}
-
-fn gap_y(p: &Pos, q: &Pos) -> u64
-    ensures value { result ≡ nat_abs (p.now.y -ℤ q.now.y) }
-    ensures small { result ≤ 4294967295 }
-{
-    i64::from(p.y).abs_diff(i64::from(q.y))
-}
-
-fn gap_z(p: &Pos, q: &Pos) -> u64
-    ensures value { result ≡ nat_abs (p.now.z -ℤ q.now.z) }
-    ensures small { result ≤ 4294967295 }
-{
-    i64::from(p.z).abs_diff(i64::from(q.z))
+    (interval.to - interval.from) as u64
 }

@@ -24,7 +24,7 @@ use std::alloc::Global;
 
 /// What a stack's copies bring to a place of the list of the world's blocks. None where none comes.
 #[tactic(auto, using(crate::proofs::StackLemmas::stacked_nowhere, crate::proofs::StackLemmas::stacked_nothing, crate::proofs::StackLemmas::stacked_here))]
-pub(crate) fn stacked(
+pub(crate) fn stack_content(
     alloc: Global,
     job: &Job<'_>,
     blocks: &Blocks<'_>,
@@ -82,7 +82,7 @@ fn copy<'a>(
     p: &Pos,
 ) -> Option<&'a Content>
     requires step { step ≡ size_along to (frame_of_selection from.now) }
-    requires near { step ≤ 2 ^ 36 }
+    requires near { step ≤ 2 ^ 37 }
     requires few { number ≤ 1000 }
     requires held { holds blocks.now.area p.now ≡ true }
     ensures { MatchOption result (is_source from.now blocks.now (copy_source from.now to p.now number) ≡ false) (λ c. StandsAtSource from.now blocks.now (copy_source from.now to p.now number) c.now) }

@@ -1,5 +1,5 @@
 pub mod BlocksLemmas
-pub mod SightLemmas
+pub mod ProbeLemmas
 pub mod MapLemmas
 pub mod FarLemmas
 pub mod MaskLemmas

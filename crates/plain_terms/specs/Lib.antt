@@ -1,6 +1,6 @@
 pub mod Shown
 pub mod Places
-pub mod Sights
+pub mod Probes
 pub mod Numbering
 pub mod Copies
 pub mod Clipboards

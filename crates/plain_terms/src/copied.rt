@@ -1,8 +1,9 @@
 //! Which block of a world a clipboard has at a relative position.
 ghost use Rattle.std.specs.Prelude.{◌≡◌, false, MatchOption, option_copied, negsuc, pos, ◌+ℤ◌, ◌≤ℤ◌};
-ghost use Rattle.edit_terms.specs.Area.{is_from, holds};
+ghost use Rattle.edit_terms.specs.Area.{holds};
 ghost use Rattle.edit_terms.specs.Clipboard.{placed_at, copied_from};
 ghost use Rattle.clipboard_transform.specs.Bounds.{IsOnMap};
+ghost use Rattle.region_shapes.specs.Extents.{extent_of};
 ghost use Rattle.plain_terms.specs.Copies.{reach, original, IsCopiedFrom};
 ghost use Rattle.plain_terms.specs.Places.{pos_of};
 
@@ -13,6 +14,7 @@ use crate::selection::is_selected;
 use clipboard_transform::source;
 use edit_terms::laws::inverse_transform;
 use edit_terms::{Clip, Content, Pos, WorldBox};
+use region_shapes::{Extent, Interval, is_in_extent};
 
 /// The content of the selected block of the world that a clipboard has at a relative position, before it
 /// is turned. None exactly where there is none.
@@ -49,25 +51,22 @@ fn copied_from(clip: &Clip, area: &WorldBox, relative: &Pos) -> Option<Pos>
 fn is_in_reach(relative: &Pos) -> bool
     ensures { result ≡ holds reach relative.now }
 {
-    is_in_reach_x(relative) && is_in_reach_y(relative) && is_in_reach_z(relative)
+    is_in_extent(&reach(), relative)
 }
 
-fn is_in_reach_x(relative: &Pos) -> bool
-    ensures { result ≡ is_from (negsuc 134217727) 268435457 relative.now.x }
+/// The relative positions that two positions of the map may have.
+fn reach() -> Extent
+    ensures { result ≡ extent_of reach }
 {
-    -134_217_728 <= relative.x && relative.x <= 134_217_728
-}
-
-fn is_in_reach_y(relative: &Pos) -> bool
-    ensures { result ≡ is_from (negsuc 134217727) 268435457 relative.now.y }
-{
-    -134_217_728 <= relative.y && relative.y <= 134_217_728
-}
-
-fn is_in_reach_z(relative: &Pos) -> bool
-    ensures { result ≡ is_from (negsuc 134217727) 268435457 relative.now.z }
-{
-    -134_217_728 <= relative.z && relative.z <= 134_217_728
+    let each = Interval {
+        from: -134_217_728,
+        to: 134_217_729,
+    };
+    Extent {
+        x: each,
+        y: each,
+        z: each,
+    }
 }
 
 /// The place that is so far from a position.

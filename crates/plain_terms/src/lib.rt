@@ -18,13 +18,13 @@ mod on_map;
 mod pasted;
 mod pattern;
 mod place;
+mod probe;
+mod probed;
+mod probed_selection;
 mod region;
 mod restating;
 mod scene;
-mod seen;
-mod seen_selection;
 mod selection;
-mod sight;
 mod tile;
 mod whole;
 

@@ -3,11 +3,11 @@ ghost use Rattle.std.specs.Prelude.{◌≡◌, ◌+◌, ◌≤◌, option_copied
 ghost use Rattle.std.specs.List.{list_all};
 ghost use Rattle.edit_terms.specs.Mask.{noise_leaves, term_holds, numbered, mask_holds, is_allowed};
 ghost use Rattle.plain_terms.specs.Numbering.{noise_count, mask_noise};
-ghost use Rattle.plain_terms.specs.Sights.{answered};
+ghost use Rattle.plain_terms.specs.Probes.{answered};
 
 use crate::leaf::{leaf_holds, noise_leaves};
+use crate::probe::probe_of;
 use crate::scene::Scene;
-use crate::sight::sight_of;
 use edit_terms::{Mask, Pos, Term};
 
 /// True exactly where the mask holds at a position, and everywhere without one. Its noise leaves are
@@ -42,10 +42,10 @@ fn term_holds(term: &Term, number: u32, scene: &Scene, p: &Pos) -> bool
     requires { number + noise_leaves term.now.leaf ≤ 16 }
     ensures { result ≡ term_holds term.now number scene.now p.now }
 {
-    let sight = sight_of(term.signs.as_slice(), p);
+    let probe = probe_of(term.signs.as_slice(), p);
     answered(
-        sight.is_negated,
-        leaf_holds(&term.leaf, number, scene, p, &sight),
+        probe.is_negated,
+        leaf_holds(&term.leaf, number, scene, p, &probe),
     )
 }
 

@@ -13,6 +13,6 @@ pub record IsFirstIllegal (scripts : List Script) (order : List ℕ) (at : ℕ) 
   pub illegal : ¬ IsLegalOrder scripts (take (suc at) order)
 
 -- what an error says of an order; want of memory says nothing
-abbrev pub Tells : List Script → List ℕ → PlainError → Type 0
-Tells scripts order (Illegal at) = IsFirstIllegal scripts order at
-Tells scripts order Memory = Unit {0}
+abbrev pub IsErrorOf : List Script → List ℕ → PlainError → Type 0
+IsErrorOf scripts order (Illegal at) = IsFirstIllegal scripts order at
+IsErrorOf scripts order Memory = Unit {0}

@@ -5,7 +5,7 @@ ghost use Rattle.edit_terms.specs.Grid.{world_of};
 ghost use Rattle.run_terms.specs.Limits.{IsWithinLimits};
 ghost use Rattle.run_terms.specs.Workload.{workload_of};
 ghost use Rattle.serial_model.specs.Folded.{IsFolded};
-ghost use Rattle.serial_model.specs.Illegal.{Tells};
+ghost use Rattle.serial_model.specs.Illegal.{IsErrorOf};
 ghost use Rattle.serial_model.specs.Turns.{HasNoCommand, IsNextCommand};
 ghost use Rattle.world_canvas.specs.Canvas.{shown};
 
@@ -52,7 +52,7 @@ impl Fold {
         requires ticket { ticket < length order.now }
         requires folded { IsFolded (workload_of case.now) order.now ticket self.old.canvas self.old.players.items self.old.replies.items }
         ensures folded { OnOk result (IsFolded (workload_of case.now) order.now (suc ticket) self.new.canvas self.new.players.items self.new.replies.items) }
-        ensures illegal { IfErr result (Tells case.now.scripts order.now) }
+        ensures illegal { IfErr result (IsErrorOf case.now.scripts order.now) }
     {
         self.canvas.well_formed();
         let player = order[ticket as usize];

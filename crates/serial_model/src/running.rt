@@ -3,7 +3,7 @@
 ghost use Rattle.std.specs.Prelude.{IfOk, IfErr};
 ghost use Rattle.run_terms.specs.Limits.{IsWithinLimits};
 ghost use Rattle.run_terms.specs.Workload.{workload_of};
-ghost use Rattle.serial_model.specs.Illegal.{Tells};
+ghost use Rattle.serial_model.specs.Illegal.{IsErrorOf};
 ghost use Rattle.serial_model.specs.Outcomes.{IsRunIn};
 
 use crate::fold::Fold;
@@ -20,7 +20,7 @@ use std::alloc::Global;
 pub fn plain_run(alloc: Global, case: &Case, order: &[u32]) -> Result<Outcome, PlainError>
     requires { IsWithinLimits (workload_of case.now) }
     ensures run { IfOk result (IsRunIn (workload_of case.now) order.now) }
-    ensures fault { IfErr result (Tells case.now.scripts order.now) }
+    ensures fault { IfErr result (IsErrorOf case.now.scripts order.now) }
 {
     let mut fold = Fold::start(alloc, case)?;
     for ticket in 0..order.len() {

@@ -14,7 +14,7 @@ ghost use Rattle.sponge_schematic.specs.Read.{IsWritable};
 use crate::carried::{Carried, Rest};
 use crate::loaded::World;
 use crate::others::Kept;
-use crate::parts::Blocks;
+use crate::parts::BlockGrid;
 use block_entities::{Gathered, entities_of_grids, gather};
 use edit_terms::{Entities, Grid, WorldBox};
 use memory::Memory;
@@ -47,7 +47,7 @@ fn gathered(alloc: Global, list: Option<Tag>, area: &WorldBox) -> Result<Gathere
 }
 
 /// The grid of these parts.
-fn grid_of(alloc: Global, blocks: Blocks, entities: Entities) -> Grid
+fn grid_of(alloc: Global, blocks: BlockGrid, entities: Entities) -> Grid
     requires numbered { is_numbered blocks.area blocks.states.items blocks.cells.items ≡ true }
     requires rising { is_rising_from blocks.area 0 (placed entities) ≡ true }
     ensures { result ≡ record {
@@ -57,7 +57,7 @@ fn grid_of(alloc: Global, blocks: Blocks, entities: Entities) -> Grid
       entities = placed entities;
     } }
 {
-    let Blocks {
+    let BlockGrid {
         data_version: _,
         area,
         states,
@@ -75,7 +75,7 @@ fn grid_of(alloc: Global, blocks: Blocks, entities: Entities) -> Grid
 /// The world of these parts, and what the file says beside it, which takes about `room` bytes.
 pub(crate) fn loaded(
     alloc: Global,
-    blocks: Blocks,
+    blocks: BlockGrid,
     kept: Kept,
     room: usize,
 ) -> Result<World, Memory>

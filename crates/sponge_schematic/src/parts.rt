@@ -26,7 +26,7 @@ use std::alloc::Global;
 
 /// The parts of a schematic beside its block entities and the tags that the format leaves open.
 #[derive(Debug, Drop)]
-pub(crate) struct Blocks {
+pub(crate) struct BlockGrid {
     pub(crate) data_version: i32,
     pub(crate) area: WorldBox,
     /// The states of the palette's entries.
@@ -75,7 +75,7 @@ fn check_entries(list: Option<&Tag>) -> Result<(), WorldFault>
 
 /// The blocks of a schematic, once all of its named tags have been looked at.
 #[tactic(auto, unfolding(crate::specs::Schematic::parts_of))]
-pub(crate) fn read_blocks(alloc: Global, row: &[Named]) -> Result<Blocks, WorldFault>
+pub(crate) fn read_blocks(alloc: Global, row: &[Named]) -> Result<BlockGrid, WorldFault>
     requires { IsFileRow row.now }
     ensures gives { Gives (λ x. record {
       data_version = x.data_version;
@@ -93,7 +93,7 @@ pub(crate) fn read_blocks(alloc: Global, row: &[Named]) -> Result<Blocks, WorldF
     let places = Places::of(alloc, numbers)?;
     let cells = cells(alloc, &places, area.volume(), row)?;
     check_entries(field(row, Field::BlockEntities))?;
-    Ok(Blocks {
+    Ok(BlockGrid {
         data_version,
         area,
         states,

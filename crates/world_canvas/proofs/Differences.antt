@@ -44,26 +44,26 @@ filter_map-range_more f k =
     ∙ filter_map-append f (range_with_len 0 k) ((0 + k) ∷ [])
     ∙ ap (λ (n : ℕ). filter_map f (range_with_len 0 k) ++ cons_option (f n) []) last
 
--- where a change is told, the changes are told for one place more
-pub change_told : (area : Area) (kinds : List BlockContent) (old new : List ℕ) (k : ℕ) (told : List CellChange) (c : CellChange) → k < volume area
-    → AreChangesBelow (world_shown area kinds old) (world_shown area kinds new) kinds k told
+-- where a change is recorded, the changes are recorded for one place more
+pub change_recorded : (area : Area) (kinds : List BlockContent) (old new : List ℕ) (k : ℕ) (recorded : List CellChange) (c : CellChange) → k < volume area
+    → AreChangesBelow (world_shown area kinds old) (world_shown area kinds new) kinds k recorded
     → Some (change_shown kinds c) ≡ change_from k (content_shown kinds old k) (content_shown kinds new k) → IsChangeNamed kinds c → c.index ≡ k
-    → AreChangesBelow (world_shown area kinds old) (world_shown area kinds new) kinds (k + 1) (told ++ c ∷ [])
-change_told area kinds old new k told c within so_far is named place = record {
-  changes = map-append (change_shown kinds) told (c ∷ [])
+    → AreChangesBelow (world_shown area kinds old) (world_shown area kinds new) kinds (k + 1) (recorded ++ c ∷ [])
+change_recorded area kinds old new k recorded c within so_far is named place = record {
+  changes = map-append (change_shown kinds) recorded (c ∷ [])
       ∙ ap (λ (cs : List Change). cs ++ change_shown kinds c ∷ []) so_far.changes
       ∙ ap (λ (o : Option Change). filter_map (change_at (world_shown area kinds old) (world_shown area kinds new)) (range_with_len 0 k) ++ cons_option o []) (is ∙ sym (change_at-shown area kinds old new k within))
       ∙ sym (filter_map-range_more (change_at (world_shown area kinds old) (world_shown area kinds new)) k);
-  named = All-append (λ d. IsChangeNamed kinds d) told (c ∷ []) so_far.named (All-cons (λ d. IsChangeNamed kinds d) c [] named (All-nil (λ d. IsChangeNamed kinds d)));
-  within = All-append (λ (d : CellChange). d.index < volume area) told (c ∷ []) so_far.within (All-cons (λ (d : CellChange). d.index < volume area) c [] (omega (arith, place, within)) (All-nil (λ (d : CellChange). d.index < volume area)));
+  named = All-append (λ d. IsChangeNamed kinds d) recorded (c ∷ []) so_far.named (All-cons (λ d. IsChangeNamed kinds d) c [] named (All-nil (λ d. IsChangeNamed kinds d)));
+  within = All-append (λ (d : CellChange). d.index < volume area) recorded (c ∷ []) so_far.within (All-cons (λ (d : CellChange). d.index < volume area) c [] (omega (arith, place, within)) (All-nil (λ (d : CellChange). d.index < volume area)));
 }
 
--- where none is told, they are too if the contents are equal
-pub change_untold : (area : Area) (kinds : List BlockContent) (old new : List ℕ) (k : ℕ) (told : List CellChange) → k < volume area
-    → AreChangesBelow (world_shown area kinds old) (world_shown area kinds new) kinds k told
+-- where none is recorded, they are too if the contents are equal
+pub no_change_recorded : (area : Area) (kinds : List BlockContent) (old new : List ℕ) (k : ℕ) (recorded : List CellChange) → k < volume area
+    → AreChangesBelow (world_shown area kinds old) (world_shown area kinds new) kinds k recorded
     → None ≡ change_from k (content_shown kinds old k) (content_shown kinds new k)
-    → AreChangesBelow (world_shown area kinds old) (world_shown area kinds new) kinds (k + 1) told
-change_untold area kinds old new k told within so_far is = record {
+    → AreChangesBelow (world_shown area kinds old) (world_shown area kinds new) kinds (k + 1) recorded
+no_change_recorded area kinds old new k recorded within so_far is = record {
   changes = so_far.changes
       ∙ sym (append-nil (filter_map (change_at (world_shown area kinds old) (world_shown area kinds new)) (range_with_len 0 k)))
       ∙ ap (λ (o : Option Change). filter_map (change_at (world_shown area kinds old) (world_shown area kinds new)) (range_with_len 0 k) ++ cons_option o []) (is ∙ sym (change_at-shown area kinds old new k within))

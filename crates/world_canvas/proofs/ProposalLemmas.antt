@@ -6,7 +6,7 @@ use Rattle.std.proofs.lemmas.Option.{get_or_from_slice_get, slice_get_within}
 use Rattle.block_palette.specs.Numbering.{IsNumberOf}
 use Rattle.edit_terms.specs.Same.{same_content, content_decides}
 use Rattle.edit_terms.specs.World.{BlockContent, air_content}
-use Rattle.world_canvas.specs.declared.proposals.Proposed.{Proposed}
+use Rattle.world_canvas.specs.declared.proposals.NumberedProposal.{NumberedProposal}
 use Rattle.world_canvas.specs.Proposals.{Proposal, proposal_shown, proposals_shown, AreNamed}
 
 module _ (old new : List BlockContent) (kept : take (length old) new ≡ old) where
@@ -17,16 +17,16 @@ module _ (old new : List BlockContent) (kept : take (length old) new ≡ old) wh
   pub long_enough : length old ≤ length new
   long_enough = omega (arith, length-take (length old) new, ap (λ (ks : List BlockContent). length ks) kept)
 
-  pub shown_stay : (ps : List Proposed) → AreNamed old ps → proposals_shown new ps ≡ proposals_shown old ps
+  pub shown_stay : (ps : List NumberedProposal) → AreNamed old ps → proposals_shown new ps ≡ proposals_shown old ps
   shown_stay ps named = map_same ps named
     where
-      map_same : (qs : List Proposed) → AreNamed old qs → proposals_shown new qs ≡ proposals_shown old qs
+      map_same : (qs : List NumberedProposal) → AreNamed old qs → proposals_shown new qs ≡ proposals_shown old qs
       map_same [] all = refl
       map_same (q ∷ qs) all =
           ap (λ (c : BlockContent). record { index = q.index; content = c } ∷ proposals_shown new qs) (content_stays q.number (All-head (λ p. p.number < length old) q qs all))
           ∙ ap (λ (rest : List Proposal). proposal_shown old q ∷ rest) (map_same qs (All-tail (λ p. p.number < length old) q qs all))
 
-  pub names_stay : (ps : List Proposed) → AreNamed old ps → AreNamed new ps
+  pub names_stay : (ps : List NumberedProposal) → AreNamed old ps → AreNamed new ps
   names_stay ps named = All-weaker (λ p. p.number < length old) (λ p. p.number < length new) (λ p below. omega (arith, below, long_enough)) ps named
 
 -- the content of a number
@@ -37,7 +37,7 @@ pub number_within : (kinds : List BlockContent) (content : BlockContent) (n : �
 number_within kinds content n is = slice_get_within kinds n is.entry is.there
 
 -- a proposal more is shown behind the others
-pub pushed : (old new : List BlockContent) (ps : List Proposed) (index n : ℕ) (content : BlockContent) → take (length old) new ≡ old → AreNamed old ps
+pub pushed : (old new : List BlockContent) (ps : List NumberedProposal) (index n : ℕ) (content : BlockContent) → take (length old) new ≡ old → AreNamed old ps
     → IsNumberOf same_content new content n → proposals_shown new (ps ++ record { index = index; number = n } ∷ []) ≡ proposals_shown old ps ++ record { index = index; content = content } ∷ []
 pushed old new ps index n content kept named is =
     map-append (proposal_shown new) ps (record { index = index; number = n } ∷ [])
@@ -45,8 +45,8 @@ pushed old new ps index n content kept named is =
     ∙ ap (λ (c : BlockContent). proposals_shown old ps ++ record { index = index; content = c } ∷ []) (content_named new content n is)
 
 -- and it is named
-pub pushed_named : (old new : List BlockContent) (ps : List Proposed) (index n : ℕ) (content : BlockContent) → take (length old) new ≡ old → AreNamed old ps
+pub pushed_named : (old new : List BlockContent) (ps : List NumberedProposal) (index n : ℕ) (content : BlockContent) → take (length old) new ≡ old → AreNamed old ps
     → IsNumberOf same_content new content n → AreNamed new (ps ++ record { index = index; number = n } ∷ [])
 pushed_named old new ps index n content kept named is =
     All-append (λ p. p.number < length new) ps (record { index = index; number = n } ∷ []) (names_stay old new kept ps named)
-    (All-cons (λ (p : Proposed). p.number < length new) (record { index = index; number = n }) [] (number_within new content n is) (All-nil (λ (p : Proposed). p.number < length new)))
+    (All-cons (λ (p : NumberedProposal). p.number < length new) (record { index = index; number = n }) [] (number_within new content n is) (All-nil (λ (p : NumberedProposal). p.number < length new)))

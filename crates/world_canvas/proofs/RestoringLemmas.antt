@@ -44,10 +44,10 @@ changes_shown-last_first kinds kept (n ∷ edits) =
     ∙ sym (ap (flat_map (λ changes. changes)) (reverse-append (changes_shown kinds one ∷ []) shown))
 
 -- the canvas on which the edits are taken back or done again
-pub restored_world : (side : Side) (area : Area) (kinds : List BlockContent) (old new : List ℕ) (kept : List (List CellChange)) (edits : List ℕ) (told : List CellChange) → IsNumbered area kinds old
-    → AreWritten side (last_first kept edits) old new → AreChangesBetween (world_shown area kinds old) (world_shown area kinds new) kinds told
-    → IsRewritten (restored (content_on side) (changes_taken kinds kept edits) (world_shown area kinds old)) (record { area = area; kinds = kinds; cells = old }) (record { area = area; kinds = kinds; cells = new }) told
-restored_world side area kinds old new kept edits told numbered written between =
+pub restored_world : (side : Side) (area : Area) (kinds : List BlockContent) (old new : List ℕ) (kept : List (List CellChange)) (edits : List ℕ) (recorded : List CellChange) → IsNumbered area kinds old
+    → AreWritten side (last_first kept edits) old new → AreChangesBetween (world_shown area kinds old) (world_shown area kinds new) kinds recorded
+    → IsRewritten (restored (content_on side) (changes_taken kinds kept edits) (world_shown area kinds old)) (record { area = area; kinds = kinds; cells = old }) (record { area = area; kinds = kinds; cells = new }) recorded
+restored_world side area kinds old new kept edits recorded numbered written between =
     let taken = changes_taken kinds kept edits in
     let w = world_shown area kinds old in
     let content : (i : ℕ) → i < volume area → content_shown kinds new i ≡ restored (content_on side) taken w i = λ i inside.

@@ -14,7 +14,7 @@ use Rattle.run_terms.proofs.ChangeLemmas.{find-changes_between}
 use Rattle.run_terms.proofs.Lists.{map-range_agrees}
 use Rattle.plain_terms.specs.Shown.{IsNumbered, content_shown, world_shown}
 use Rattle.world_canvas.specs.declared.cell_change.CellChange.{CellChange}
-use Rattle.world_canvas.specs.declared.proposals.Proposed.{Proposed}
+use Rattle.world_canvas.specs.declared.proposals.NumberedProposal.{NumberedProposal}
 use Rattle.world_canvas.specs.declared.restoring.Side.TheVariants.{After}
 use Rattle.world_canvas.specs.Canvas.{IsGrown}
 use Rattle.world_canvas.specs.Changes.{IsChangeNamed, IsRewritten, change_shown, changes_shown}
@@ -65,33 +65,33 @@ after_change to w i within =
     by_test false e = refl
 
 -- kept proposals are of the places that they show
-pub kept_within : (n : ℕ) (contents : List BlockContent) (ps : List Proposed) → All (λ (p : Proposal). p.index < n) (proposals_shown contents ps) → All (λ (p : Proposed). p.index < n) ps
+pub kept_within : (n : ℕ) (contents : List BlockContent) (ps : List NumberedProposal) → All (λ (p : Proposal). p.index < n) (proposals_shown contents ps) → All (λ (p : NumberedProposal). p.index < n) ps
 kept_within n contents ps within = λ k d inside.
     subst (λ (m : ℕ). m < n) (ap (λ (p : Proposal). p.index) (get_or-map (proposal_shown contents) ps k d (proposal_shown contents d) inside))
     (within k (proposal_shown contents d) (omega (arith, inside, length-map ps (proposal_shown contents))))
 
 module _ (kinds new_kinds : List BlockContent) (cells numbers : List ℕ) (contents : List BlockContent) (grown : IsGrown kinds new_kinds) (numbered : All (λ n. n < length kinds) cells) (names : AreNumbersOf new_kinds contents numbers) where
   -- a proposal's cell change shows the change that it proposes
-  change_proposed : (p : Proposed) → p.index < length cells → p.number < length contents → change_shown new_kinds (cell_change cells numbers p) ≡ proposed_change (content_shown kinds cells) (proposal_shown contents p)
+  change_proposed : (p : NumberedProposal) → p.index < length cells → p.number < length contents → change_shown new_kinds (cell_change cells numbers p) ≡ proposed_change (content_shown kinds cells) (proposal_shown contents p)
   change_proposed p within named =
       let before : get_or new_kinds (get_or cells p.index 0) air_content ≡ content_shown kinds cells p.index = grown_content kinds new_kinds grown (get_or cells p.index 0) (numbered p.index 0 within) in
       let after : get_or new_kinds (get_or numbers p.number 0) air_content ≡ get_or contents p.number air_content = (names.each p.number (omega (arith, named, names.long))).is in
       λ i. record { index = p.index; before = before i; after = after i }
 
-  changes_proposed : (ps : List Proposed) → All (λ (p : Proposed). p.index < length cells) ps → AreNamed contents ps → changes_shown new_kinds (map (cell_change cells numbers) ps) ≡ map (proposed_change (content_shown kinds cells)) (proposals_shown contents ps)
+  changes_proposed : (ps : List NumberedProposal) → All (λ (p : NumberedProposal). p.index < length cells) ps → AreNamed contents ps → changes_shown new_kinds (map (cell_change cells numbers) ps) ≡ map (proposed_change (content_shown kinds cells)) (proposals_shown contents ps)
   changes_proposed [] within named = refl
   changes_proposed (p ∷ ps) within named =
-      let one = change_proposed p (All-head (λ (q : Proposed). q.index < length cells) p ps within) (All-head (λ (q : Proposed). q.number < length contents) p ps named) in
-      let rest = changes_proposed ps (All-tail (λ (q : Proposed). q.index < length cells) p ps within) (All-tail (λ (q : Proposed). q.number < length contents) p ps named) in
+      let one = change_proposed p (All-head (λ (q : NumberedProposal). q.index < length cells) p ps within) (All-head (λ (q : NumberedProposal). q.number < length contents) p ps named) in
+      let rest = changes_proposed ps (All-tail (λ (q : NumberedProposal). q.index < length cells) p ps within) (All-tail (λ (q : NumberedProposal). q.number < length contents) p ps named) in
       λ i. one i ∷ rest i
 
-  change_named : (p : Proposed) → p.index < length cells → p.number < length contents → IsChangeNamed new_kinds (cell_change cells numbers p)
+  change_named : (p : NumberedProposal) → p.index < length cells → p.number < length contents → IsChangeNamed new_kinds (cell_change cells numbers p)
   change_named p within named =
       let more = grown_length kinds new_kinds grown in
       record { before = omega (arith, more, numbered p.index 0 within); after = (names.each p.number (omega (arith, named, names.long))).within }
 
   -- the cell changes of kept proposals are the changes that they propose
-  pub changes_made : (ps : List Proposed) → All (λ (p : Proposed). p.index < length cells) ps → AreNamed contents ps → AreProposed kinds new_kinds cells (proposals_shown contents ps) (map (cell_change cells numbers) ps)
+  pub changes_made : (ps : List NumberedProposal) → All (λ (p : NumberedProposal). p.index < length cells) ps → AreNamed contents ps → AreProposed kinds new_kinds cells (proposals_shown contents ps) (map (cell_change cells numbers) ps)
   changes_made ps within named = record {
     changes = changes_proposed ps within named;
     named = All-map (λ c. IsChangeNamed new_kinds c) (cell_change cells numbers) ps (λ k d inside. change_named (get_or ps k d) (within k d inside) (named k d inside));
@@ -114,17 +114,17 @@ agrees_in_world area kinds cells to a (suc n) fits =
         λ i. record { index = a; before = own i; after = to a } ∷ rest i
 
 -- the canvas on which the proposals are written
-pub written_down : (area : Area) (kinds new_kinds : List BlockContent) (cells new : List ℕ) (ps : List Proposal) (told : List CellChange) (to : ℕ → BlockContent) → IsGrown kinds new_kinds → IsNumbered area kinds cells
-    → AreProposed kinds new_kinds cells ps told → ((i : ℕ) → i < length cells → get_or new i 0 ≡ number_written After told cells i) → ps ≡ proposals_for to (world_shown area kinds cells)
-    → IsRewritten to (record { area = area; kinds = kinds; cells = cells }) (record { area = area; kinds = new_kinds; cells = new }) told
-written_down area kinds new_kinds cells new ps told to grown numbered proposed written proposes =
+pub written_down : (area : Area) (kinds new_kinds : List BlockContent) (cells new : List ℕ) (ps : List Proposal) (recorded : List CellChange) (to : ℕ → BlockContent) → IsGrown kinds new_kinds → IsNumbered area kinds cells
+    → AreProposed kinds new_kinds cells ps recorded → ((i : ℕ) → i < length cells → get_or new i 0 ≡ number_written After recorded cells i) → ps ≡ proposals_for to (world_shown area kinds cells)
+    → IsRewritten to (record { area = area; kinds = kinds; cells = cells }) (record { area = area; kinds = new_kinds; cells = new }) recorded
+written_down area kinds new_kinds cells new ps recorded to grown numbered proposed written proposes =
     let w = world_shown area kinds cells in
-    let changes : changes_shown new_kinds told ≡ changes_between w (world_to to w) =
+    let changes : changes_shown new_kinds recorded ≡ changes_between w (world_to to w) =
     proposed.changes ∙ ap (map (proposed_change (content_shown kinds cells))) proposes ∙ agrees_in_world area kinds cells to 0 (volume area) (omega arith) ∙ proposed_range to w 0 (volume area) (omega arith) in
     let content : (i : ℕ) → i < volume area → content_shown new_kinds new i ≡ to i = λ i inside.
     let own : content_shown new_kinds cells i ≡ content_of w i = grown_content kinds new_kinds grown (get_or cells i 0) (numbered.within i 0 (omega (arith, inside, numbered.whole))) ∙ sym (content_of-shown area kinds cells i inside) in
     ap (λ (n : ℕ). get_or new_kinds n air_content) (written i (omega (arith, inside, numbered.whole)))
-    ∙ content_written After new_kinds told cells i
+    ∙ content_written After new_kinds recorded cells i
     ∙ ap (λ (cs : List Change). option_map_or (λ (change : Change). change.after) (find (λ change. eqb change.index i) cs) (content_shown new_kinds cells i)) changes
     ∙ ap (λ (o : Option Change). option_map_or (λ (change : Change). change.after) o (content_shown new_kinds cells i)) (find-changes_between w (world_to to w) i inside)
     ∙ ap (λ (c : BlockContent). option_map_or (λ (change : Change). change.after) (change_at w (world_to to w) i) c) own

@@ -27,20 +27,20 @@ abbrev pub AreChangesIn : Area → List CellChange → Type 0
 AreChangesIn area cs = All (λ c. c.index < volume area) cs
 
 -- these are the changes between two worlds at the places below this one, by numbers
-pub record AreChangesBelow (old new : World) (kinds : List BlockContent) (end : ℕ) (told : List CellChange) : Type 0 where
-  pub changes : changes_shown kinds told ≡ filter_map (change_at old new) (range_with_len 0 end)
-  pub named : AreChangesNamed kinds told
-  pub within : AreChangesIn old.area told
+pub record AreChangesBelow (old new : World) (kinds : List BlockContent) (end : ℕ) (recorded : List CellChange) : Type 0 where
+  pub changes : changes_shown kinds recorded ≡ filter_map (change_at old new) (range_with_len 0 end)
+  pub named : AreChangesNamed kinds recorded
+  pub within : AreChangesIn old.area recorded
 
 -- all changes between two worlds
 abbrev pub AreChangesBetween : World → World → List BlockContent → List CellChange → Type 0
-AreChangesBetween old new kinds told = AreChangesBelow old new kinds (volume old.area) told
+AreChangesBetween old new kinds recorded = AreChangesBelow old new kinds (volume old.area) recorded
 
 -- the canvas has these contents now, and this is what changed
-pub record IsRewritten (to : ℕ → BlockContent) (old new : Painting) (told : List CellChange) : Type 0 where
+pub record IsRewritten (to : ℕ → BlockContent) (old new : Painting) (recorded : List CellChange) : Type 0 where
   pub area : new.area ≡ old.area
   pub grown : IsGrown old.kinds new.kinds
   pub world : shown new ≡ record (shown old) { contents = map to (range_with_len 0 (volume old.area)) }
-  pub changes : changes_shown new.kinds told ≡ changes_between (shown old) (shown new)
-  pub named : AreChangesNamed new.kinds told
-  pub within : AreChangesIn old.area told
+  pub changes : changes_shown new.kinds recorded ≡ changes_between (shown old) (shown new)
+  pub named : AreChangesNamed new.kinds recorded
+  pub within : AreChangesIn old.area recorded

@@ -11,7 +11,7 @@ use std::marker::Model;
 
 /// A place of the list of a world's blocks and the number of the content that is to stand there.
 #[derive(Clone, Copy, Debug)]
-pub(crate) struct Proposed {
+pub(crate) struct NumberedProposal {
     pub(crate) index: u32,
     pub(crate) number: u32,
 }
@@ -20,14 +20,14 @@ pub(crate) struct Proposed {
 #[derive(Drop)]
 pub(crate) struct Parts<'a> {
     pub(crate) kinds: &'a Palette<Content>,
-    pub(crate) items: &'a [Proposed],
+    pub(crate) items: &'a [NumberedProposal],
 }
 
 /// Contents that are to stand at places of the list of a world's blocks. Equal contents are kept once.
 #[derive(Drop)]
 pub struct Proposals {
     kinds: Palette<Content>,
-    items: Vec<Proposed>,
+    items: Vec<NumberedProposal>,
 }
 
 impl Model for Proposals {
@@ -62,7 +62,7 @@ impl Proposals {
         }
         self.items.try_reserve(1)?;
         let number = self.kinds.number(content)?;
-        self.items.push(Proposed { index, number })?;
+        self.items.push(NumberedProposal { index, number })?;
         Ok(())
     }
 

@@ -20,7 +20,7 @@ pub(crate) enum Side {
 
 impl Canvas {
     /// Takes the edits of these numbers back: each place that they changed gets the content from before the
-    /// last of them that changed it. Tells what this changed. After `Memory` the world is as it was.
+    /// last of them that changed it. Returns the changes that this made. After `Memory` the world is as it was.
     pub fn take_back(
         &mut self,
         alloc: Global,
@@ -37,7 +37,7 @@ impl Canvas {
     }
 
     /// Does the edits of these numbers again: each place that they changed gets the content from after the
-    /// last of them that changed it. Tells what this changed. After `Memory` the world is as it was.
+    /// last of them that changed it. Returns the changes that this made. After `Memory` the world is as it was.
     pub fn do_again(
         &mut self,
         alloc: Global,

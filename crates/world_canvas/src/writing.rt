@@ -11,7 +11,7 @@ ghost use Rattle.world_canvas.specs.Writing.{cell_change, AreProposed};
 use crate::canvas::Canvas;
 use crate::cell_change::CellChange;
 use crate::numbering::{contents_of, number_all};
-use crate::proposals::{Proposals, Proposed};
+use crate::proposals::{NumberedProposal, Proposals};
 use crate::restoring::{Side, put};
 use block_palette::Palette;
 use edit_terms::Content;
@@ -19,7 +19,7 @@ use memory::Memory;
 use std::alloc::Global;
 
 impl Canvas {
-    /// Gives the blocks the proposed contents, and tells what this changed. After `Memory` the world is as it
+    /// Gives the blocks the proposed contents, and returns the changes that this made. After `Memory` the world is as it
     /// was.
     pub fn write(&mut self, alloc: Global, proposals: &Proposals) -> Result<Vec<CellChange>, Memory>
         requires { All (λ p. p.index < volume self.old.area) proposals.now }
@@ -56,7 +56,7 @@ fn cell_changes(
     alloc: Global,
     cells: &[u32],
     numbers: &[u32],
-    proposals: &[Proposed],
+    proposals: &[NumberedProposal],
 ) -> Result<Vec<CellChange>, Memory>
     requires within { All (λ p. p.index < length cells.now) proposals.now }
     requires named { All (λ p. p.number < length numbers.now) proposals.now }

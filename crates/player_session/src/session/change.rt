@@ -1,5 +1,5 @@
-//! What a command that isn't refused makes of the session. All of it counts the command, and none of it
-//! takes memory.
+//! What a command that isn't refused makes of the session. Each call takes one command: it counts the command
+//! and sets what the command sets. None of them allocates.
 
 ghost use Rattle.std.specs.Prelude.{◌≡◌, ◌+◌, ◌<◌};
 ghost use Rattle.run_terms.specs.Session.{with_command, counted};
@@ -17,17 +17,17 @@ impl Session {
         ensures number { self.new.number ≡ self.old.number + 1 }
     {
         match command {
-            Command::Pos1 { at } => self.set_first(*at),
-            Command::Pos2 { at } => self.set_second(*at),
-            Command::Place { at } => self.set_place(*at),
-            Command::Sel { kind } => self.set_kind(*kind),
-            Command::Gmask { .. } => self.set_global(mask),
-            Command::Copy => self.copy(),
-            Command::Cut => self.cut(),
-            Command::Rotate { quarters } => self.rotate(*quarters),
-            Command::Flip { to } => self.flip(*to),
-            Command::Undo { count } => self.undo(*count),
-            Command::Redo { count } => self.redo(*count),
+            Command::Pos1 { at } => self.take_pos1(*at),
+            Command::Pos2 { at } => self.take_pos2(*at),
+            Command::Place { at } => self.take_place(*at),
+            Command::Sel { kind } => self.take_sel(*kind),
+            Command::Gmask { .. } => self.take_gmask(mask),
+            Command::Copy => self.take_copy(),
+            Command::Cut => self.take_cut(),
+            Command::Rotate { quarters } => self.take_rotate(*quarters),
+            Command::Flip { to } => self.take_flip(*to),
+            Command::Undo { count } => self.take_undo(*count),
+            Command::Redo { count } => self.take_redo(*count),
             Command::Block { .. } => self.count(),
             Command::Set { .. }
             | Command::Walls { .. }
@@ -37,7 +37,7 @@ impl Session {
             | Command::Cyl { .. }
             | Command::Stack { .. }
             | Command::Move { .. }
-            | Command::Paste { .. } => self.enter(),
+            | Command::Paste { .. } => self.take_edit(),
         }
     }
 
@@ -49,7 +49,8 @@ impl Session {
         self.number += 1;
     }
 
-    fn set_first(&mut self, at: Pos)
+    /// The first position of the selection is set.
+    fn take_pos1(&mut self, at: Pos)
         requires { self.old.number < 10000 }
         ensures { self.new ≡ counted (record self.old { first = Some at }) }
     {
@@ -57,7 +58,8 @@ impl Session {
         self.number += 1;
     }
 
-    fn set_second(&mut self, at: Pos)
+    /// The second position of the selection is set.
+    fn take_pos2(&mut self, at: Pos)
         requires { self.old.number < 10000 }
         ensures { self.new ≡ counted (record self.old { second = Some at }) }
     {
@@ -65,7 +67,8 @@ impl Session {
         self.number += 1;
     }
 
-    fn set_place(&mut self, at: Pos)
+    /// The placement position is set.
+    fn take_place(&mut self, at: Pos)
         requires { self.old.number < 10000 }
         ensures { self.new ≡ counted (record self.old { place = Some at }) }
     {
@@ -73,7 +76,8 @@ impl Session {
         self.number += 1;
     }
 
-    fn set_kind(&mut self, kind: Kind)
+    /// The selection's kind is set.
+    fn take_sel(&mut self, kind: Kind)
         requires { self.old.number < 10000 }
         ensures { self.new ≡ counted (record self.old { kind = kind }) }
     {
@@ -81,7 +85,8 @@ impl Session {
         self.number += 1;
     }
 
-    fn set_global(&mut self, mask: Option<Mask>)
+    /// The mask of all edits is set, or dropped.
+    fn take_gmask(&mut self, mask: Option<Mask>)
         requires { self.old.number < 10000 }
         ensures { self.new ≡ counted (record self.old { global = mask }) }
     {

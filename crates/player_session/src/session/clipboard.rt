@@ -11,7 +11,7 @@ use edit_terms::{Clip, Direction, Source, Transform};
 
 impl Session {
     /// The selection is copied.
-    pub(super) fn copy(&mut self)
+    pub(super) fn take_copy(&mut self)
         requires { self.old.number < 10000 }
         ensures { self.new ≡ counted (with_copy self.old) }
     {
@@ -20,16 +20,16 @@ impl Session {
     }
 
     /// The selection is copied by an edit.
-    pub(super) fn cut(&mut self)
+    pub(super) fn take_cut(&mut self)
         requires { self.old.number < 10000 }
         ensures { self.new ≡ counted (entered (with_copy self.old)) }
     {
         self.clip = self.copied_clip();
-        self.enter();
+        self.take_edit();
     }
 
     /// The clipboard is turned by so many quarters.
-    pub(super) fn rotate(&mut self, quarters: u8)
+    pub(super) fn take_rotate(&mut self, quarters: u8)
         requires { self.old.number < 10000 }
         ensures { self.new ≡ counted (with_transform (λ t. then_turn t quarters) self.old) }
     {
@@ -38,7 +38,7 @@ impl Session {
     }
 
     /// The clipboard is flipped along a direction.
-    pub(super) fn flip(&mut self, to: Direction)
+    pub(super) fn take_flip(&mut self, to: Direction)
         requires { self.old.number < 10000 }
         ensures { self.new ≡ counted (with_transform (λ t. then_flip t to) self.old) }
     {

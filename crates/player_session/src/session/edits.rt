@@ -27,7 +27,7 @@ impl Session {
     }
 
     /// The next command is an edit, which enters the history. Takes no memory.
-    pub(super) fn enter(&mut self)
+    pub(super) fn take_edit(&mut self)
         requires { self.old.number < 10000 }
         ensures { self.new ≡ counted (entered self.old) }
     {
@@ -36,7 +36,7 @@ impl Session {
     }
 
     /// So many edits are taken back, or all before the cursor if they are fewer.
-    pub(super) fn undo(&mut self, count: u32)
+    pub(super) fn take_undo(&mut self, count: u32)
         requires { self.old.number < 10000 }
         ensures { self.new ≡ counted (record self.old { cursor = self.old.cursor - length (undone_edits self.old count) }) }
     {
@@ -45,7 +45,7 @@ impl Session {
     }
 
     /// So many edits are done again, or all behind the cursor if they are fewer.
-    pub(super) fn redo(&mut self, count: u32)
+    pub(super) fn take_redo(&mut self, count: u32)
         requires { self.old.number < 10000 }
         ensures { self.new ≡ counted (record self.old { cursor = self.old.cursor + length (redone_edits self.old count) }) }
     {

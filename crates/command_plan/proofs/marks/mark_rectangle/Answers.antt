@@ -6,7 +6,7 @@ use Rattle.command_plan.proofs.marks.mark_rectangle.Goals as goal
 
 pub loop-row-preserved : goal.loop-row-preserved
 loop-row-preserved c = λ k.
-    let wide = c.args.floor.now.columns in
+    let wide = c.args.grid.now.columns in
     let r = c.args.r.now in
     let row = c.loop-row.row in
     let old = get_or c.args.marks.now k false in
@@ -15,4 +15,4 @@ loop-row-preserved c = λ k.
     c.mark_run.ensures k
     ∙ ap (λ (b : Bool). b || run) (c.loop-row.invariant k)
     ∙ or_again old before run
-    ∙ ap (λ (b : Bool). old || b) (sym (row_more wide r.x r.z.from row k c.requires.floor.wide c.requires.inside.x c.loop-row.auto.row))
+    ∙ ap (λ (b : Bool). old || b) (sym (row_more wide r.x r.z.from row k c.requires.grid.wide c.requires.inside.x c.loop-row.auto.row))

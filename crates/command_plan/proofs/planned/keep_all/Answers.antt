@@ -4,7 +4,7 @@ use Rattle.std.specs.List.{list_any}
 use Rattle.std.proofs.lemmas.List.Folds.{list_any_more}
 use Rattle.edit_terms.specs.declared.step.Step.{Step}
 use Rattle.run_terms.specs.Fold.{edits_taken_by}
-use Rattle.command_plan.specs.Courses.{edits_at, is_taken}
+use Rattle.command_plan.specs.ResolvedScripts.{edits_at, is_taken}
 use Rattle.command_plan.proofs.MarkLemmas.{or_again}
 use Rattle.command_plan.proofs.WriteLemmas.{edits_read}
 use Rattle.command_plan.proofs.planned.keep_all.Goals as goal

@@ -1,5 +1,5 @@
 use Rattle.std.proofs.Common.{◌≡◌, ℕ, ◌||◌, false, get_or, take}
-use Rattle.command_plan.specs.Courses.{is_taken}
+use Rattle.command_plan.specs.ResolvedScripts.{is_taken}
 use Rattle.command_plan.proofs.planned.keep_all.Given as goal
 
 -- the commands passed

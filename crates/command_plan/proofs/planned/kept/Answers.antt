@@ -1,7 +1,7 @@
 use Rattle.std.proofs.Common.{◌≡◌, ◌||◌, Bool, false, List, length, get_or, sym, ap, ◌∙◌}
 use Rattle.std.specs.Vec.{with_items}
 use Rattle.std.proofs.lemmas.List.{with_items_is}
-use Rattle.command_plan.specs.Courses.{is_taken}
+use Rattle.command_plan.specs.ResolvedScripts.{is_taken}
 use Rattle.command_plan.proofs.KeepLemmas.{taken_later}
 use Rattle.command_plan.proofs.planned.kept.Goals as goal
 

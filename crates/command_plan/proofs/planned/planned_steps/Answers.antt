@@ -6,8 +6,8 @@ use Rattle.std.proofs.lemmas.List.FromFn.{map-range_with_len_more}
 use Rattle.edit_terms.specs.declared.step.Step.{Step}
 use Rattle.edit_terms.specs.declared.step.Step.TheVariants.{Settled}
 use Rattle.command_plan.specs.declared.planned.Planned.{Planned}
-use Rattle.command_plan.specs.Courses.{step_at}
-use Rattle.command_plan.specs.PlannedCourses.{planned_at, planned_with}
+use Rattle.command_plan.specs.ResolvedScripts.{step_at}
+use Rattle.command_plan.specs.PlannedScripts.{planned_at, planned_with}
 use Rattle.command_plan.proofs.planned.planned_steps.Goals as goal
 
 pub loop-step-preserved : goal.loop-step-preserved
@@ -17,11 +17,11 @@ loop-step-preserved c =
     let rest = into_iter_items c.next.new.self in
     let yielded = c.loop-step.yielded in
     let number = c.loop-step.number in
-    let floor = c.args.floor.now in
+    let grid = c.args.grid.now in
     let fs = c.args.footprints.now in
     let keeps = c.args.keeps.now in
     let steps = c.args.steps.items in
-    let each = λ (n : ℕ). planned_at floor steps fs n in
+    let each = λ (n : ℕ). planned_at grid steps fs n in
     let parts : steps ≡ yielded ++ (step ∷ rest) = sym inv.split ∙ ap (λ (ss : List Step). yielded ++ ss) c.in-Some.ensures.steps.0 in
     let at : step_at steps number ≡ step =
     ap (λ (ss : List Step). get_or ss number Settled) parts ∙ ap (λ (n : ℕ). get_or (yielded ++ step ∷ rest) n Settled) inv.number_is ∙ get_or-append_seam yielded step rest Settled in
@@ -33,7 +33,7 @@ loop-step-preserved c =
       split = append_assoc yielded (step ∷ []) rest ∙ ap (λ (ss : List Step). yielded ++ ss) (sym c.in-Some.ensures.steps.0) ∙ inv.split;
       number_is = omega (arith, more, before);
       planned = c.in_ok-push.ensures.items
-          ∙ ap (λ (p : Planned). c.loop-step.commands.items ++ p ∷ []) (c.in_ok-plan_command.ensures ∙ ap (λ (s : Step). planned_with floor fs number s (get_or keeps number false)) (sym at) ∙ ap (λ (b : Bool). planned_with floor fs number (step_at steps number) b) (c.requires.each number inside))
+          ∙ ap (λ (p : Planned). c.loop-step.commands.items ++ p ∷ []) (c.in_ok-plan_command.ensures ∙ ap (λ (s : Step). planned_with grid fs number s (get_or keeps number false)) (sym at) ∙ ap (λ (b : Bool). planned_with grid fs number (step_at steps number) b) (c.requires.each number inside))
           ∙ ap (λ (ps : List Planned). ps ++ each number ∷ []) inv.planned
           ∙ sym (map-range_with_len_more each 0 number number (omega arith));
     }

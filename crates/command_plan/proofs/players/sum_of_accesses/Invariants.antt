@@ -6,8 +6,8 @@ use Rattle.run_terms.specs.Workload.{workload_of}
 use Rattle.command_plan.proofs.players.sum_of_accesses.Given as goal
 
 -- the players passed
-abbrev pub invariant-loop-course : goal.invariant-loop-course
-invariant-loop-course l = record {
-  sum_is : l.sum ≡ sum_by (accesses_of_player (workload_of l.case)) (range_with_len 0 l.course-index);
-  small : l.sum ≤ l.course-index * 85899345900000;
+abbrev pub invariant-loop-script : goal.invariant-loop-script
+invariant-loop-script l = record {
+  sum_is : l.sum ≡ sum_by (accesses_of_player (workload_of l.case)) (range_with_len 0 l.script-index);
+  small : l.sum ≤ l.script-index * 85899345900000;
 }

@@ -10,7 +10,7 @@ across true false false d = refl
 across false b c d = refl
 
 pub returns-clause-within : goal.returns-clause-within
-returns-clause-within c = λ floor first second. record { x = c.common_run.ensures.within floor.columns first.x second.x; z = c.common_run-2.ensures.within floor.rows first.z second.z }
+returns-clause-within c = λ grid first second. record { x = c.common_run.ensures.within grid.columns first.x second.x; z = c.common_run-2.ensures.within grid.rows first.z second.z }
 
 pub returns-clause-exact : goal.returns-clause-exact
 returns-clause-exact c = λ columns chunk.

@@ -1,6 +1,6 @@
 use Rattle.std.proofs.Common.{◌<◌, arith}
 use Rattle.edit_terms.specs.Area.{volume}
-use Rattle.world_canvas.proofs.Differences.{change_told, change_untold}
+use Rattle.world_canvas.proofs.Differences.{change_recorded, no_change_recorded}
 use Rattle.world_canvas.proofs.comparing.changes_between.Goals as goal
 use Rattle.world_canvas.proofs.comparing.changes_between.Goals.{in-Some+in_ok-push, in_default}
 
@@ -14,9 +14,9 @@ loop-index-preserved c =
     let within : k < volume area = omega arith in
     elim c.match-change_at.branch [
       | in-Some+in_ok-push w ↦
-          let told = change_told area kinds old new k c.loop-index.changes.items w.in-Some.change within c.loop-index.invariant w.in-Some.ensures.shown w.in-Some.ensures.named w.in-Some.ensures.place in
-          rw (w.changes-is, w.in_ok-push.ensures.items) told
+          let recorded = change_recorded area kinds old new k c.loop-index.changes.items w.in-Some.change within c.loop-index.invariant w.in-Some.ensures.shown w.in-Some.ensures.named w.in-Some.ensures.place in
+          rw (w.changes-is, w.in_ok-push.ensures.items) recorded
       | in_default w ↦
-          let told = change_untold area kinds old new k c.loop-index.changes.items within c.loop-index.invariant w.in_default.ensures.shown in
-          rw w.changes-is told
+          let recorded = no_change_recorded area kinds old new k c.loop-index.changes.items within c.loop-index.invariant w.in_default.ensures.shown in
+          rw w.changes-is recorded
     ]

@@ -22,6 +22,6 @@ returns-clause-changes c =
     let within = kept_within (length cells) parts.kinds.now parts.items.now (subst (λ (ps : List Proposal). All (λ (p : Proposal). p.index < length cells) ps) (sym c.parts-parts.ensures.shown) c.requires.within) in
     let names : AreNumbersOf kinds parts.kinds.now numbers = subst (λ (ks : List BlockContent). AreNumbersOf kinds ks numbers) (c.deref.ensures.value ∙ c.in_ok-contents.ensures) c.in_ok-numbers.ensures.numbers in
     let made = changes_made c.args.kinds.now kinds cells numbers parts.kinds.now c.number_all.ensures.grown c.requires.numbered names parts.items.now within c.parts-parts.ensures.named in
-    let told : c.in_ok-changes.changes.items ≡ map (cell_change cells numbers) parts.items.now = c.in_ok-changes.ensures ∙ ap (λ (ns : List ℕ). map (cell_change cells ns) parts.items.now) c.deref-2.ensures.value in
-    subst (λ (cs : List CellChange). AreProposed c.args.kinds.now kinds cells c.args.proposals.now cs) (sym told)
+    let recorded : c.in_ok-changes.changes.items ≡ map (cell_change cells numbers) parts.items.now = c.in_ok-changes.ensures ∙ ap (λ (ns : List ℕ). map (cell_change cells ns) parts.items.now) c.deref-2.ensures.value in
+    subst (λ (cs : List CellChange). AreProposed c.args.kinds.now kinds cells c.args.proposals.now cs) (sym recorded)
     (subst (λ (ps : List Proposal). AreProposed c.args.kinds.now kinds cells ps (map (cell_change cells numbers) parts.items.now)) c.parts-parts.ensures.shown made)

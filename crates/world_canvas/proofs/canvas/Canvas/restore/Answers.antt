@@ -30,10 +30,10 @@ returns-clause-restored c =
     let canvas = c.self.inside in
     let lists = map (λ (v : Vec CellChange Global). v.items) c.args.kept.now in
     let edits = c.args.edits.now in
-    let told = c.in_ok-changes.changes.items in
+    let recorded = c.in_ok-changes.changes.items in
     let new = c.in_ok-cells.cells.items in
     let written : AreWritten c.args.side (last_first lists edits) canvas.cells.items new = rw c.deref.ensures.value at c.in_ok-cells.ensures in
-    let between : AreChangesBetween (world_shown canvas.area canvas.kinds canvas.cells.items) (world_shown canvas.area canvas.kinds new) canvas.kinds told =
+    let between : AreChangesBetween (world_shown canvas.area canvas.kinds canvas.cells.items) (world_shown canvas.area canvas.kinds new) canvas.kinds recorded =
     rw (c.deref-2.ensures.value, c.deref-3.ensures.value) at c.in_ok-changes.ensures in
-    subst (λ (p : Painting). IsRewritten (restored (content_on c.args.side) (changes_taken p.kinds lists edits) (shown p)) p (record { area = canvas.area; kinds = canvas.kinds; cells = new }) told) c.self.view_is
-    (restored_world c.args.side canvas.area canvas.kinds canvas.cells.items new lists edits told c.self.invariant written between)
+    subst (λ (p : Painting). IsRewritten (restored (content_on c.args.side) (changes_taken p.kinds lists edits) (shown p)) p (record { area = canvas.area; kinds = canvas.kinds; cells = new }) recorded) c.self.view_is
+    (restored_world c.args.side canvas.area canvas.kinds canvas.cells.items new lists edits recorded c.self.invariant written between)

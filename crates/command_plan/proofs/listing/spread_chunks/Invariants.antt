@@ -1,9 +1,0 @@
-use Rattle.std.proofs.Common.{◌≡◌, ◌*◌}
-use Rattle.std.specs.Prelude.{filter}
-use Rattle.std.specs.List.{range_with_len}
-use Rattle.command_plan.specs.Rectangles.{is_spread_over}
-use Rattle.command_plan.proofs.listing.spread_chunks.Given as goal
-
--- the rows passed
-abbrev pub invariant-loop-row : goal.invariant-loop-row
-invariant-loop-row l = l.chunks.items ≡ filter (is_spread_over l.floor.columns l.s) (range_with_len 0 (l.row * l.floor.columns))
