@@ -5,10 +5,12 @@
 //! many cases there were.
 #![tactic(auto)]
 
+mod answer;
 mod parts;
 mod run;
 mod text;
 
+pub use answer::Answer;
 pub use memory::Memory;
 pub use parts::{Parts, parts_of};
 pub use run::{Cases, is_case, run_cases, tell_case};

@@ -1,3 +1,4 @@
+use crate::answer::Answer;
 use crate::parts::parts_of;
 use std::alloc::Global;
 use std::io::{self, BufRead, BufReader, Write};
@@ -6,7 +7,7 @@ use std::io::{self, BufRead, BufReader, Write};
 pub trait Cases {
     /// Puts the answer behind what is there. None where there is no such kind, where the input is none of the
     /// kind's, and where memory runs out.
-    fn answer(&self, alloc: Global, kind: &str, input: &str, answer: &mut Vec<u8>) -> Option<()>;
+    fn answer(&self, alloc: Global, kind: &str, input: &str, answer: &mut Answer) -> Option<()>;
 }
 
 /// Reads lines to the end, and prints each case whose answer is another as `LINE BUT ANSWER`, and then `done N`
@@ -31,12 +32,12 @@ pub fn is_case(line: &str) -> bool {
 
 /// Prints the case if its answer is another.
 fn try_case<R: Print + AllocGlobal, C: Cases>(rt: &R, cases: &C, line: &str) -> io::Result<()> {
-    let mut found = Vec::new(rt.alloc());
+    let mut found = Answer::new(rt.alloc());
     let answered = answer_line(rt.alloc(), cases, line, &mut found);
     tell_case(rt, line, answered, &found)
 }
 
-fn answer_line<C: Cases>(alloc: Global, cases: &C, line: &str, found: &mut Vec<u8>) -> Option<()> {
+fn answer_line<C: Cases>(alloc: Global, cases: &C, line: &str, found: &mut Answer) -> Option<()> {
     let parts = parts_of(line)?;
     cases.answer(alloc, parts.kind, parts.input, found)
 }
@@ -47,11 +48,11 @@ pub fn tell_case<R: Print>(
     rt: &R,
     line: &str,
     answered: Option<()>,
-    answer: &[u8],
+    answer: &Answer,
 ) -> io::Result<()> {
-    match (parts_of(line), answered) {
-        (Some(parts), Some(())) if parts.answer.as_bytes() == answer => Ok(()),
-        (Some(_), Some(())) => tell(rt, line, answer),
+    match (parts_of(line), answered, answer.whole()) {
+        (Some(parts), Some(()), Some(bytes)) if parts.answer.as_bytes() == bytes => Ok(()),
+        (Some(_), Some(()), Some(bytes)) => tell(rt, line, bytes),
         _ => tell(rt, line, b"no answer"),
     }
 }

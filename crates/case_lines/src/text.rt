@@ -4,20 +4,20 @@ use itoa::{Buffer, Integer};
 use memory::Memory;
 use std::alloc::Global;
 
-/// Puts a text behind an answer.
-pub fn push_text(answer: &mut Vec<u8>, text: &str) -> Result<(), Memory>
-    ensures { OnOk result (answer.new.items ≡ answer.old.items ++ text.now) }
+/// Puts a text behind bytes.
+pub fn push_text(bytes: &mut Vec<u8>, text: &str) -> Result<(), Memory>
+    ensures { OnOk result (bytes.new.items ≡ bytes.old.items ++ text.now) }
 {
-    answer.extend_from_slice(text.as_bytes())?;
+    bytes.extend_from_slice(text.as_bytes())?;
     Ok(())
 }
 
-/// Puts a number behind an answer, in decimal.
-pub fn push_number<I: Integer>(answer: &mut Vec<u8>, number: I) -> Result<(), Memory>
-    ensures { OnOk result (answer.new.items ≡ answer.old.items ++ I.text number) }
+/// Puts a number behind bytes, in decimal.
+pub fn push_number<I: Integer>(bytes: &mut Vec<u8>, number: I) -> Result<(), Memory>
+    ensures { OnOk result (bytes.new.items ≡ bytes.old.items ++ I.text number) }
 {
     let mut buffer = Buffer::new();
-    answer.extend_from_slice(buffer.format(number).as_bytes())?;
+    bytes.extend_from_slice(buffer.format(number).as_bytes())?;
     Ok(())
 }
 

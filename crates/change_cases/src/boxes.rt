@@ -1,6 +1,6 @@
 //! Boxes and positions as texts: `WxHxL`, `WxHxL@X,Y,Z` with a least corner other than 0,0,0, and `X,Y,Z`.
 
-use case_lines::{push_number, push_text};
+use case_lines::Answer;
 use edit_terms::{Pos, WorldBox};
 
 /// The box of a text.
@@ -31,29 +31,29 @@ pub fn position_of(text: &str) -> Option<Pos> {
 }
 
 /// Puts a position behind an answer.
-pub fn tell_position(answer: &mut Vec<u8>, p: &Pos) -> Option<()> {
-    push_number(answer, p.x).ok()?;
-    push_text(answer, ",").ok()?;
-    push_number(answer, p.y).ok()?;
-    push_text(answer, ",").ok()?;
-    push_number(answer, p.z).ok()
+pub fn tell_position(answer: &mut Answer, p: &Pos) {
+    answer.number(p.x);
+    answer.text(",");
+    answer.number(p.y);
+    answer.text(",");
+    answer.number(p.z)
 }
 
 /// Puts a box behind an answer.
-pub fn tell_box(answer: &mut Vec<u8>, area: &WorldBox) -> Option<()> {
-    push_number(answer, area.width()).ok()?;
-    push_text(answer, "x").ok()?;
-    push_number(answer, area.height()).ok()?;
-    push_text(answer, "x").ok()?;
-    push_number(answer, area.length()).ok()?;
-    push_text(answer, "@").ok()?;
+pub fn tell_box(answer: &mut Answer, area: &WorldBox) {
+    answer.number(area.width());
+    answer.text("x");
+    answer.number(area.height());
+    answer.text("x");
+    answer.number(area.length());
+    answer.text("@");
     tell_position(answer, &area.least())
 }
 
 /// Puts a separator behind an answer that has something.
-pub fn tell_between(answer: &mut Vec<u8>, separator: &str) -> Option<()> {
+pub fn tell_between(answer: &mut Answer, separator: &str) {
     if answer.is_empty() {
-        return Some(());
+        return;
     }
-    push_text(answer, separator).ok()
+    answer.text(separator)
 }

@@ -10,12 +10,12 @@ ghost use Rattle.edit_terms.specs.Area.{volume};
 
 use crate::boxes::{box_of, position_of, tell_between};
 use crate::contents::{content_of, entity_of, state_of, tell_content, tell_entity, tell_letter};
-use case_lines::{push_number, push_text};
+use case_lines::Answer;
 use edit_terms::{Content, Entities, Grid, Pos, WorldBox};
 use std::alloc::Global;
 use world_canvas::{Canvas, CellChange, Proposals};
 
-pub fn answer(alloc: Global, kind: &str, input: &str, answer: &mut Vec<u8>) -> Option<()> {
+pub fn answer(alloc: Global, kind: &str, input: &str, answer: &mut Answer) -> Option<()> {
     let (first, rest) = input.split_once(' ')?;
     match kind {
         "canvas" => tell_canvas(alloc, answer, canvas_of(alloc, first, rest)?),
@@ -25,7 +25,8 @@ pub fn answer(alloc: Global, kind: &str, input: &str, answer: &mut Vec<u8>) -> O
                 answer,
                 &canvas_of(alloc, area, letters)?,
                 &position_of(first)?,
-            )
+            );
+            Some(())
         }
         _ => {
             let (letters, writes) = rest.split_once(' ')?;
@@ -40,10 +41,10 @@ fn canvas_of(alloc: Global, area: &str, letters: &str) -> Option<Canvas> {
 }
 
 /// Tells what stands at a position, by the numbers that the blocks have now.
-fn tell_at(answer: &mut Vec<u8>, canvas: &Canvas, at: &Pos) -> Option<()> {
+fn tell_at(answer: &mut Answer, canvas: &Canvas, at: &Pos) {
     canvas.well_formed();
     match canvas.earlier(canvas.cells()).at(at) {
-        None => push_text(answer, "outside").ok(),
+        None => answer.text("outside"),
         Some(content) => tell_content(answer, content),
     }
 }
@@ -71,26 +72,21 @@ fn entities_of(alloc: Global, area: &WorldBox, letters: &[u8]) -> Option<Entitie
     Some(Entities::from_vec(entities))
 }
 
-fn answer_writes(alloc: Global, canvas: Canvas, writes: &str, answer: &mut Vec<u8>) -> Option<()> {
+fn answer_writes(alloc: Global, canvas: Canvas, writes: &str, answer: &mut Answer) -> Option<()> {
     let mut canvas = canvas;
     for words in writes.split(" / ") {
         write_words(alloc, &mut canvas, words, answer)?;
     }
-    push_text(answer, "; ").ok()?;
+    answer.text("; ");
     tell_canvas(alloc, answer, canvas)
 }
 
-fn write_words(
-    alloc: Global,
-    canvas: &mut Canvas,
-    words: &str,
-    answer: &mut Vec<u8>,
-) -> Option<()> {
+fn write_words(alloc: Global, canvas: &mut Canvas, words: &str, answer: &mut Answer) -> Option<()> {
     let area = *canvas.area();
     let proposals = proposals_of(alloc, &area, words)?;
     let changes = canvas.write(alloc, &proposals).ok()?;
     for change in &changes {
-        tell_change(answer, change)?;
+        tell_change(answer, change);
     }
     Some(())
 }
@@ -126,51 +122,61 @@ fn place_of(word: &str) -> Option<(u32, u8)> {
     Some((index.parse::<u32>().ok()?, *letter.as_bytes().first()?))
 }
 
-fn tell_change(answer: &mut Vec<u8>, change: &CellChange) -> Option<()> {
-    tell_between(answer, " ")?;
-    push_number(answer, change.index).ok()?;
-    push_text(answer, ":").ok()?;
-    push_number(answer, change.before).ok()?;
-    push_text(answer, ">").ok()?;
-    push_number(answer, change.after).ok()
+fn tell_change(answer: &mut Answer, change: &CellChange) {
+    tell_between(answer, " ");
+    answer.number(change.index);
+    answer.text(":");
+    answer.number(change.before);
+    answer.text(">");
+    answer.number(change.after)
 }
 
 /// Tells a canvas, and the grid that it becomes.
-fn tell_canvas(alloc: Global, answer: &mut Vec<u8>, canvas: Canvas) -> Option<()> {
-    tell_numbers(answer, canvas.cells())?;
-    tell_blocks(answer, &canvas)?;
-    push_text(answer, " / ").ok()?;
-    let grid = canvas.into_grid(alloc).ok()?;
-    tell_numbers(answer, grid.cells())?;
+fn tell_canvas(alloc: Global, answer: &mut Answer, canvas: Canvas) -> Option<()> {
+    tell_numbers(answer, canvas.cells());
+    tell_blocks(answer, &canvas);
+    answer.text(" / ");
+    let Some(grid) = canvas.into_grid(alloc).ok() else {
+        answer.fail();
+        return Some(());
+    };
+    tell_numbers(answer, grid.cells());
     tell_grid(answer, &grid)
 }
 
-fn tell_numbers(answer: &mut Vec<u8>, numbers: &[u32]) -> Option<()> {
+fn tell_numbers(answer: &mut Answer, numbers: &[u32]) {
     for number in numbers {
-        push_number(answer, *number).ok()?;
-        push_text(answer, " ").ok()?;
+        answer.number(*number);
+        answer.text(" ");
     }
-    Some(())
 }
 
-fn tell_blocks(answer: &mut Vec<u8>, canvas: &Canvas) -> Option<()> {
+fn tell_blocks(answer: &mut Answer, canvas: &Canvas) {
     for index in 0..canvas.area().volume() {
-        let at = canvas.area().position(index)?;
-        tell_content(answer, canvas.blocks().at(&at)?)?;
+        let Some(at) = canvas.area().position(index) else {
+            answer.fail();
+            return;
+        };
+        match canvas.blocks().at(&at) {
+            Some(content) => tell_content(answer, content),
+            None => answer.fail(),
+        }
     }
-    Some(())
 }
 
-fn tell_grid(answer: &mut Vec<u8>, grid: &Grid) -> Option<()> {
+fn tell_grid(answer: &mut Answer, grid: &Grid) -> Option<()> {
     for index in 0..grid.area().volume() {
-        tell_block(answer, grid, grid.area().position(index)?)?;
+        tell_block(answer, grid, grid.area().position(index)?);
     }
     Some(())
 }
 
-fn tell_block(answer: &mut Vec<u8>, grid: &Grid, at: Pos) -> Option<()> {
+fn tell_block(answer: &mut Answer, grid: &Grid, at: Pos) {
     match grid.entity(at) {
         Some(entity) => tell_entity(answer, entity),
-        None => tell_letter(answer, grid.get(at)?, None),
+        None => match grid.get(at) {
+            Some(state) => tell_letter(answer, state, None),
+            None => answer.fail(),
+        },
     }
 }

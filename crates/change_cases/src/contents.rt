@@ -1,7 +1,7 @@
 //! Contents by letters: `.` air, `s` stone, `p` stone with a property, `d` dirt, `c` a chest, a digit a chest with an
 //! entity that has this digit before `Pos`, and a capital letter one that has it behind `Pos`. `-` stands for none.
 
-use case_lines::push_text;
+use case_lines::Answer;
 use edit_terms::{BlockName, BlockState, Content, Entity, Name, Properties};
 use std::alloc::Global;
 use std::sync::Arc;
@@ -78,26 +78,22 @@ pub fn entity_of(alloc: Global, letter: u8) -> Option<Option<Arc<Entity>>> {
 }
 
 /// Puts the letter of a content behind an answer.
-pub fn tell_content(answer: &mut Vec<u8>, content: &Content) -> Option<()> {
+pub fn tell_content(answer: &mut Answer, content: &Content) {
     tell_letter(answer, &content.state, content.entity.as_ref())
 }
 
 /// Puts the letter of a state and an entity behind an answer.
-pub fn tell_letter(
-    answer: &mut Vec<u8>,
-    state: &BlockState,
-    entity: Option<&Arc<Entity>>,
-) -> Option<()> {
+pub fn tell_letter(answer: &mut Answer, state: &BlockState, entity: Option<&Arc<Entity>>) {
     match entity {
-        None => push_text(answer, letter_of(state)).ok(),
+        None => answer.text(letter_of(state)),
         Some(entity) => tell_entity(answer, entity),
     }
 }
 
 /// Puts the tags of an entity behind an answer.
-pub fn tell_entity(answer: &mut Vec<u8>, entity: &Entity) -> Option<()> {
-    answer.extend_from_slice(entity.before()).ok()?;
-    answer.extend_from_slice(entity.after()).ok()
+pub fn tell_entity(answer: &mut Answer, entity: &Entity) {
+    answer.bytes(entity.before());
+    answer.bytes(entity.after())
 }
 
 fn letter_of(state: &BlockState) -> &'static str {

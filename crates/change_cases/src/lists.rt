@@ -12,48 +12,55 @@ ghost use Rattle.change_set.specs.Changes.{positions, rises};
 use crate::boxes::{box_of, tell_position};
 use crate::contents::{at_place, contents_of, tell_content};
 use crate::places::{stretches, tell_places};
-use case_lines::{Memory, push_number, push_text};
+use case_lines::{Answer, Memory};
 use change_set::{ChangeBuilder, Changes, Proposed, Run};
 use edit_terms::{Content, Pos, WorldBox};
 use std::alloc::Global;
 
-pub fn answer(alloc: Global, kind: &str, input: &str, answer: &mut Vec<u8>) -> Option<()> {
+pub fn answer(alloc: Global, kind: &str, input: &str, answer: &mut Answer) -> Option<()> {
     let changes = match kind {
         "between" => proposed_in(alloc, input)?,
         _ => changes_in(alloc, input)?,
     };
-    tell_changes(answer, &changes)
+    tell_changes(answer, &changes);
+    Some(())
 }
 
-pub fn answer_places(alloc: Global, kind: &str, input: &str, answer: &mut Vec<u8>) -> Option<()> {
+pub fn answer_places(alloc: Global, kind: &str, input: &str, answer: &mut Answer) -> Option<()> {
     let changes = changes_in(alloc, input)?;
     match kind {
-        "afters" => tell_places(answer, &changes),
-        _ => tell_places(answer, &changes.befores()),
+        "afters" => {
+            tell_places(answer, &changes);
+            Some(())
+        }
+        _ => {
+            tell_places(answer, &changes.befores());
+            Some(())
+        }
     }
 }
 
-fn tell_changes(answer: &mut Vec<u8>, changes: &Changes) -> Option<()> {
-    push_number(answer, changes.len()).ok()?;
+fn tell_changes(answer: &mut Answer, changes: &Changes) {
+    answer.number(changes.len());
     for run in changes.runs() {
-        tell_run(answer, run)?;
+        tell_run(answer, run);
     }
-    push_text(answer, "; walked ").ok()?;
-    push_number(answer, stretches(changes)).ok()?;
-    push_text(answer, " and ").ok()?;
-    push_number(answer, stretches(&changes.befores())).ok()
+    answer.text("; walked ");
+    answer.number(stretches(changes));
+    answer.text(" and ");
+    answer.number(stretches(&changes.befores()))
 }
 
-fn tell_run(answer: &mut Vec<u8>, run: &Run) -> Option<()> {
-    push_text(answer, "; ").ok()?;
-    tell_position(answer, &run.first)?;
-    push_text(answer, " ").ok()?;
-    push_number(answer, run.start).ok()?;
-    push_text(answer, "+").ok()?;
-    push_number(answer, run.length).ok()?;
-    push_text(answer, " ").ok()?;
-    tell_content(answer, &run.before)?;
-    push_text(answer, ">").ok()?;
+fn tell_run(answer: &mut Answer, run: &Run) {
+    answer.text("; ");
+    tell_position(answer, &run.first);
+    answer.text(" ");
+    answer.number(run.start);
+    answer.text("+");
+    answer.number(run.length);
+    answer.text(" ");
+    tell_content(answer, &run.before);
+    answer.text(">");
     tell_content(answer, &run.after)
 }
 

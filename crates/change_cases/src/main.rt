@@ -13,14 +13,14 @@ mod parts;
 mod places;
 mod undo;
 
-use case_lines::{Cases, run_cases};
+use case_lines::{Answer, Cases, run_cases};
 use std::alloc::Global;
 use std::io;
 
 struct ChangeCases;
 
 impl Cases for ChangeCases {
-    fn answer(&self, alloc: Global, kind: &str, input: &str, answer: &mut Vec<u8>) -> Option<()> {
+    fn answer(&self, alloc: Global, kind: &str, input: &str, answer: &mut Answer) -> Option<()> {
         match kind {
             "changes" | "between" => lists::answer(alloc, kind, input, answer),
             "afters" | "befores" => lists::answer_places(alloc, kind, input, answer),

@@ -8,19 +8,22 @@
 use crate::boxes::tell_between;
 use crate::contents::{content_of, tell_content};
 use block_palette::Palette;
-use case_lines::{push_number, push_text};
+use case_lines::Answer;
 use edit_terms::Content;
 use std::alloc::Global;
 
 /// More entries than any case has.
 const TOO_MANY: u32 = 1_000_000;
 
-pub fn answer(alloc: Global, kind: &str, input: &str, answer: &mut Vec<u8>) -> Option<()> {
+pub fn answer(alloc: Global, kind: &str, input: &str, answer: &mut Answer) -> Option<()> {
     match kind {
         "palette" => answer_numbers(alloc, input, answer),
         "contents" => answer_contents(alloc, input, answer),
         "palette-find" | "palette-entry" => answer_words(alloc, kind, input, answer),
-        "palette-len" => tell_len(answer, &palette_of(alloc, input)?),
+        "palette-len" => {
+            tell_len(answer, &palette_of(alloc, input)?);
+            Some(())
+        }
         "palette-many" => answer_many(alloc, input, answer),
         _ => None,
     }
@@ -34,16 +37,16 @@ fn number(palette: &mut Palette<u32>, entry: u32) -> Option<u32> {
     palette.number(entry).ok()
 }
 
-fn answer_numbers(alloc: Global, input: &str, answer: &mut Vec<u8>) -> Option<()> {
+fn answer_numbers(alloc: Global, input: &str, answer: &mut Answer) -> Option<()> {
     let mut palette = Palette::new(alloc);
     for word in input.split(' ') {
-        tell_between(answer, " ")?;
-        push_number(answer, number(&mut palette, word.parse::<u32>().ok()?)?).ok()?;
+        tell_between(answer, " ");
+        answer.number(number(&mut palette, word.parse::<u32>().ok()?)?);
     }
-    push_text(answer, ";").ok()?;
+    answer.text(";");
     for place in 0..palette.len() {
-        push_text(answer, " ").ok()?;
-        push_number(answer, *palette.entry(place)?).ok()?;
+        answer.text(" ");
+        answer.number(*palette.entry(place)?);
     }
     Some(())
 }
@@ -55,16 +58,16 @@ fn number_content(palette: &mut Palette<Content>, content: Content) -> Option<u3
     palette.number(content).ok()
 }
 
-fn answer_contents(alloc: Global, input: &str, answer: &mut Vec<u8>) -> Option<()> {
+fn answer_contents(alloc: Global, input: &str, answer: &mut Answer) -> Option<()> {
     let mut palette = Palette::new(alloc);
     for letter in input.as_bytes() {
-        tell_between(answer, " ")?;
+        tell_between(answer, " ");
         let place = number_content(&mut palette, content_of(alloc, *letter)?)?;
-        push_number(answer, place).ok()?;
+        answer.number(place);
     }
-    push_text(answer, "; ").ok()?;
+    answer.text("; ");
     for place in 0..palette.len() {
-        tell_content(answer, palette.entry(place)?)?;
+        tell_content(answer, palette.entry(place)?);
     }
     Some(())
 }
@@ -80,33 +83,32 @@ fn palette_of(alloc: Global, words: &str) -> Option<Palette<u32>> {
     Some(palette)
 }
 
-fn answer_words(alloc: Global, kind: &str, input: &str, answer: &mut Vec<u8>) -> Option<()> {
+fn answer_words(alloc: Global, kind: &str, input: &str, answer: &mut Answer) -> Option<()> {
     let (entries, asked) = input.split_once("/ ")?;
     let palette = palette_of(alloc, entries.trim_end())?;
     for word in asked.split(' ') {
-        tell_between(answer, " ")?;
+        tell_between(answer, " ");
         let asked = word.parse::<u32>().ok()?;
         let found = match kind {
             "palette-find" => palette.find(&asked),
             _ => palette.entry(asked).copied(),
         };
-        tell_found(answer, found)?;
+        tell_found(answer, found);
     }
     Some(())
 }
 
-fn tell_len(answer: &mut Vec<u8>, palette: &Palette<u32>) -> Option<()> {
-    push_number(answer, palette.len()).ok()?;
+fn tell_len(answer: &mut Answer, palette: &Palette<u32>) {
+    answer.number(palette.len());
     if palette.is_empty() {
-        push_text(answer, ", empty").ok()?;
+        answer.text(", empty");
     }
-    Some(())
 }
 
-fn tell_found(answer: &mut Vec<u8>, found: Option<u32>) -> Option<()> {
+fn tell_found(answer: &mut Answer, found: Option<u32>) {
     match found {
-        None => push_text(answer, "none").ok(),
-        Some(number) => push_number(answer, number).ok(),
+        None => answer.text("none"),
+        Some(number) => answer.number(number),
     }
 }
 
@@ -115,17 +117,18 @@ fn entry_at(place: u32) -> u32 {
     place ^ 0x5a5a
 }
 
-fn answer_many(alloc: Global, input: &str, answer: &mut Vec<u8>) -> Option<()> {
+fn answer_many(alloc: Global, input: &str, answer: &mut Answer) -> Option<()> {
     let count = input.parse::<u32>().ok()?;
     let mut palette = Palette::new(alloc);
     for place in 0..count {
         number(&mut palette, entry_at(place))?;
     }
-    push_number(answer, palette.len()).ok()?;
-    push_text(answer, " entries, ").ok()?;
-    push_number(answer, found_again(&mut palette, count)).ok()?;
-    push_text(answer, " found again, 1000000 ").ok()?;
-    tell_found(answer, palette.find(&1_000_000))
+    answer.number(palette.len());
+    answer.text(" entries, ");
+    answer.number(found_again(&mut palette, count));
+    answer.text(" found again, 1000000 ");
+    tell_found(answer, palette.find(&1_000_000));
+    Some(())
 }
 
 /// How many entries of a large palette have their number.

@@ -9,7 +9,7 @@
 use crate::boxes::{box_of, position_of};
 use crate::contents::{at_place, content_of, contents_of};
 use crate::places::{stretches, tell_places, tell_stretches};
-use case_lines::{Memory, push_number, push_text};
+use case_lines::{Answer, Memory};
 use change_set::{Part, PartBuilder};
 use edit_terms::{CellList, Content, Pos, Source, WorldBox};
 use std::alloc::Global;
@@ -18,7 +18,7 @@ const SOURCE: Source = Source { player: 3, step: 1 };
 
 const CHUNK: u32 = 5;
 
-pub fn answer(alloc: Global, kind: &str, input: &str, answer: &mut Vec<u8>) -> Option<()> {
+pub fn answer(alloc: Global, kind: &str, input: &str, answer: &mut Answer) -> Option<()> {
     let (area, letters) = input.split_once(' ')?;
     let area = box_of(area)?;
     let contents = contents_of(alloc, letters)?;
@@ -26,12 +26,13 @@ pub fn answer(alloc: Global, kind: &str, input: &str, answer: &mut Vec<u8>) -> O
         "part" => built(alloc, &area, &contents).ok()?,
         _ => sorted(alloc, &area, &contents)?,
     };
-    tell_part(answer, &part)
+    tell_part(answer, &part);
+    Some(())
 }
 
-fn tell_part(answer: &mut Vec<u8>, part: &Part) -> Option<()> {
+fn tell_part(answer: &mut Answer, part: &Part) {
     if part.source() != SOURCE || part.chunk() != CHUNK {
-        push_text(answer, "of another command or chunk: ").ok()?;
+        answer.text("of another command or chunk: ");
     }
     tell_places(answer, part)
 }
@@ -78,37 +79,41 @@ fn part_of(cells: Vec<(Pos, Content)>) -> Option<Part> {
     Some(Part::from_cells(SOURCE, CHUNK, cells))
 }
 
-pub fn answer_walked(alloc: Global, input: &str, answer: &mut Vec<u8>) -> Option<()> {
+pub fn answer_walked(alloc: Global, input: &str, answer: &mut Answer) -> Option<()> {
     let (area, letters) = input.split_once(' ')?;
     let area = box_of(area)?;
     let contents = contents_of(alloc, letters)?;
-    tell_walked(answer, &built(alloc, &area, &contents).ok()?)?;
-    push_text(answer, "; ").ok()?;
-    tell_walked(answer, &sorted(alloc, &area, &contents)?)
+    tell_walked(answer, &built(alloc, &area, &contents).ok()?);
+    answer.text("; ");
+    tell_walked(answer, &sorted(alloc, &area, &contents)?);
+    Some(())
 }
 
-fn tell_walked(answer: &mut Vec<u8>, part: &Part) -> Option<()> {
-    push_number(answer, part.len()).ok()?;
-    push_text(answer, " in ").ok()?;
-    push_number(answer, stretches(part)).ok()
+fn tell_walked(answer: &mut Answer, part: &Part) {
+    answer.number(part.len());
+    answer.text(" in ");
+    answer.number(stretches(part))
 }
 
-pub fn answer_stretches(alloc: Global, input: &str, answer: &mut Vec<u8>) -> Option<()> {
+pub fn answer_stretches(alloc: Global, input: &str, answer: &mut Answer) -> Option<()> {
     let (area, letters) = input.split_once(' ')?;
     let area = box_of(area)?;
     let contents = contents_of(alloc, letters)?;
-    tell_stretches(answer, &built(alloc, &area, &contents).ok()?)?;
-    push_text(answer, " and ").ok()?;
-    tell_stretches(answer, &sorted(alloc, &area, &contents)?)
+    tell_stretches(answer, &built(alloc, &area, &contents).ok()?);
+    answer.text(" and ");
+    tell_stretches(answer, &sorted(alloc, &area, &contents)?);
+    Some(())
 }
 
-pub fn answer_cells(alloc: Global, kind: &str, input: &str, answer: &mut Vec<u8>) -> Option<()> {
+pub fn answer_cells(alloc: Global, kind: &str, input: &str, answer: &mut Answer) -> Option<()> {
     if kind == "cells" {
-        return tell_part(answer, &part_in(alloc, input)?);
+        tell_part(answer, &part_in(alloc, input)?);
+        return Some(());
     }
     let (at, cells) = input.split_once(' ')?;
     let part = part_in(alloc, cells)?;
-    tell_found(answer, &part, &position_of(at)?)
+    tell_found(answer, &part, &position_of(at)?);
+    Some(())
 }
 
 fn part_in(alloc: Global, words: &str) -> Option<Part> {
@@ -125,20 +130,21 @@ fn cell_of(alloc: Global, word: &str) -> Option<(Pos, Content)> {
     Some((position_of(at)?, content_of(alloc, *letter)?))
 }
 
-pub fn answer_find(alloc: Global, input: &str, answer: &mut Vec<u8>) -> Option<()> {
+pub fn answer_find(alloc: Global, input: &str, answer: &mut Answer) -> Option<()> {
     let (area, rest) = input.split_once(' ')?;
     let (letters, at) = rest.split_once(' ')?;
     let area = box_of(area)?;
     let at = position_of(at)?;
     let contents = contents_of(alloc, letters)?;
-    tell_found(answer, &built(alloc, &area, &contents).ok()?, &at)?;
-    push_text(answer, " and ").ok()?;
-    tell_found(answer, &sorted(alloc, &area, &contents)?, &at)
+    tell_found(answer, &built(alloc, &area, &contents).ok()?, &at);
+    answer.text(" and ");
+    tell_found(answer, &sorted(alloc, &area, &contents)?, &at);
+    Some(())
 }
 
-fn tell_found(answer: &mut Vec<u8>, part: &Part, at: &Pos) -> Option<()> {
+fn tell_found(answer: &mut Answer, part: &Part, at: &Pos) {
     match part.find(at) {
-        None => push_text(answer, "none").ok(),
-        Some(place) => push_number(answer, place).ok(),
+        None => answer.text("none"),
+        Some(place) => answer.number(place),
     }
 }

@@ -6,26 +6,28 @@
 use crate::boxes::tell_between;
 use crate::contents::contents_of;
 use crate::lists::changed;
-use case_lines::{push_number, push_text};
+use case_lines::Answer;
 use change_set::{Changes, Kept};
 use edit_terms::{Pos, Source, WorldBox};
 use std::alloc::Global;
 
-pub fn answer(alloc: Global, input: &str, answer: &mut Vec<u8>) -> Option<()> {
+pub fn answer(alloc: Global, input: &str, answer: &mut Answer) -> Option<()> {
     let mut kept = Kept::new(alloc);
     for word in input.split(' ') {
-        tell_between(answer, " ")?;
+        tell_between(answer, " ");
         answer_word(alloc, &mut kept, word, answer)?;
     }
     Some(())
 }
 
-fn answer_word(alloc: Global, kept: &mut Kept, word: &str, answer: &mut Vec<u8>) -> Option<()> {
+fn answer_word(alloc: Global, kept: &mut Kept, word: &str, answer: &mut Answer) -> Option<()> {
     if let Some(command) = word.strip_prefix("?") {
-        return tell_count(answer, kept.get(source_of(command)?));
+        tell_count(answer, kept.get(source_of(command)?));
+        return Some(());
     }
     if let Some(command) = word.strip_prefix("-") {
-        return tell_count(answer, kept.take(source_of(command)?).as_ref());
+        tell_count(answer, kept.take(source_of(command)?).as_ref());
+        return Some(());
     }
     let (command, count) = word.strip_prefix("+")?.split_once('=')?;
     let changes = some_changes(alloc, count.parse::<u32>().ok()?)?;
@@ -49,20 +51,24 @@ fn some_changes(alloc: Global, count: u32) -> Option<Changes> {
     changed(alloc, &area, None, &before, &after).ok()
 }
 
-fn tell_count(answer: &mut Vec<u8>, changes: Option<&Changes>) -> Option<()> {
+fn tell_count(answer: &mut Answer, changes: Option<&Changes>) {
     match changes {
-        None => push_text(answer, "none").ok(),
-        Some(changes) => push_number(answer, changes.len()).ok(),
+        None => answer.text("none"),
+        Some(changes) => answer.number(changes.len()),
     }
 }
 
 /// Keeps the changes of a command that has none.
-fn keep(kept: &mut Kept, source: Source, changes: Changes, answer: &mut Vec<u8>) -> Option<()> {
+fn keep(kept: &mut Kept, source: Source, changes: Changes, answer: &mut Answer) -> Option<()> {
     match kept.get(source) {
-        Some(changes) => tell_count(answer, Some(changes)),
+        Some(changes) => {
+            tell_count(answer, Some(changes));
+            Some(())
+        }
         None => {
             kept.put(source, changes).ok()?;
-            tell_count(answer, None)
+            tell_count(answer, None);
+            Some(())
         }
     }
 }

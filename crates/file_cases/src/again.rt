@@ -9,6 +9,7 @@ use crate::schematics::framed;
 use crate::show::show_row;
 use crate::tags::{TOO_MANY, tell_written};
 use crate::words::spell;
+use case_lines::Answer;
 use nbt_tags::{Named, Tag, decode};
 use sponge_schematic::{read_world, write_world};
 use std::alloc::Global;
@@ -16,7 +17,7 @@ use std::alloc::Global;
 /// How many tags a written file has before the Palette.
 const BEFORE_PALETTE: usize = 7;
 
-pub fn answer(alloc: Global, kind: &str, input: &str, answer: &mut Vec<u8>) -> Option<()> {
+pub fn answer(alloc: Global, kind: &str, input: &str, answer: &mut Answer) -> Option<()> {
     match kind {
         "file-again" => answer_again(alloc, input, answer),
         "head" => {
@@ -35,10 +36,11 @@ pub fn answer(alloc: Global, kind: &str, input: &str, answer: &mut Vec<u8>) -> O
     }
 }
 
-fn answer_again(alloc: Global, input: &str, answer: &mut Vec<u8>) -> Option<()> {
+fn answer_again(alloc: Global, input: &str, answer: &mut Answer) -> Option<()> {
     let bytes = spell(alloc, input)?;
     let written = written(alloc, &bytes)?;
-    tell_written(alloc, answer, &bytes, &written)
+    tell_written(alloc, answer, &bytes, &written);
+    Some(())
 }
 
 /// The file of the world that these bytes give, with what they say beside it.
@@ -60,22 +62,55 @@ fn bare(alloc: Global, bytes: &[u8]) -> Option<Vec<u8>> {
     write_world(alloc, &carried, &world.grid).ok()
 }
 
-fn tell_head(alloc: Global, answer: &mut Vec<u8>, bytes: &[u8]) -> Option<()> {
-    let root = root_of(alloc, bytes)?;
-    let row = row_of(&root)?;
-    show_row(alloc, answer, row.get(..BEFORE_PALETTE)?)
+fn tell_head(alloc: Global, answer: &mut Answer, bytes: &[u8]) -> Option<()> {
+    let Some(root) = root_of(alloc, bytes) else {
+        answer.fail();
+        return Some(());
+    };
+    let Some(row) = row_of(&root) else {
+        answer.fail();
+        return Some(());
+    };
+    match row.get(..BEFORE_PALETTE) {
+        Some(head) => show_row(alloc, answer, head),
+        None => {
+            answer.fail();
+            Some(())
+        }
+    }
 }
 
 /// Tells the Palette of a file and what stands behind it.
-pub fn tell_body(alloc: Global, answer: &mut Vec<u8>, bytes: &[u8]) -> Option<()> {
-    let root = root_of(alloc, bytes)?;
-    let row = row_of(&root)?;
-    show_row(alloc, answer, row.get(BEFORE_PALETTE..)?)
+pub fn tell_body(alloc: Global, answer: &mut Answer, bytes: &[u8]) -> Option<()> {
+    let Some(root) = root_of(alloc, bytes) else {
+        answer.fail();
+        return Some(());
+    };
+    let Some(row) = row_of(&root) else {
+        answer.fail();
+        return Some(());
+    };
+    match row.get(BEFORE_PALETTE..) {
+        Some(body) => show_row(alloc, answer, body),
+        None => {
+            answer.fail();
+            Some(())
+        }
+    }
 }
 
-fn tell_all(alloc: Global, answer: &mut Vec<u8>, bytes: &[u8]) -> Option<()> {
-    let root = root_of(alloc, bytes)?;
-    show_row(alloc, answer, row_of(&root)?)
+fn tell_all(alloc: Global, answer: &mut Answer, bytes: &[u8]) -> Option<()> {
+    let Some(root) = root_of(alloc, bytes) else {
+        answer.fail();
+        return Some(());
+    };
+    match row_of(&root) {
+        Some(row) => show_row(alloc, answer, row),
+        None => {
+            answer.fail();
+            Some(())
+        }
+    }
 }
 
 /// The root, if it has the name of a schematic.

@@ -10,11 +10,12 @@ use crate::again::tell_body;
 use crate::schematics::framed;
 use crate::tags::TOO_MANY;
 use block_entities::entities_of_grids;
+use case_lines::Answer;
 use edit_terms::Grid;
 use sponge_schematic::{Carried, World, read_world, write_world};
 use std::alloc::Global;
 
-pub fn answer(alloc: Global, input: &str, answer: &mut Vec<u8>) -> Option<()> {
+pub fn answer(alloc: Global, input: &str, answer: &mut Answer) -> Option<()> {
     let (first, second) = input.split_once(" / ")?;
     let first = framed(alloc, first)?;
     let second = framed(alloc, second)?;

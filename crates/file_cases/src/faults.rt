@@ -1,12 +1,12 @@
 //! The texts of faults.
 
 use block_state::StateFault;
-use case_lines::{push_number, push_text};
+use case_lines::Answer;
 use nbt_tags::NbtFault;
 use sponge_schematic::{Field, WorldFault};
 
 /// The text of a fault of tags. None for a refused allocation.
-pub fn tell_nbt(out: &mut Vec<u8>, fault: NbtFault) -> Option<()> {
+pub fn tell_nbt(out: &mut Answer, fault: NbtFault) -> Option<()> {
     match fault {
         NbtFault::Short { at } => tell(out, "nbt short at ", at),
         NbtFault::BadType { at } => tell(out, "nbt type at ", at),
@@ -14,44 +14,68 @@ pub fn tell_nbt(out: &mut Vec<u8>, fault: NbtFault) -> Option<()> {
         NbtFault::Duplicate { at } => tell(out, "nbt duplicate at ", at),
         NbtFault::Deep { at } => tell(out, "nbt deep at ", at),
         NbtFault::Trailing { at } => tell(out, "nbt trailing at ", at),
-        NbtFault::Memory => None,
+        NbtFault::Memory => {
+            out.fail();
+            Some(())
+        }
     }
 }
 
 /// The text of a fault of a world's file. None for a refused allocation.
-pub fn tell_world(out: &mut Vec<u8>, fault: WorldFault) -> Option<()> {
+pub fn tell_world(out: &mut Answer, fault: WorldFault) -> Option<()> {
     match fault {
-        WorldFault::Compressed => push_text(out, "compressed").ok(),
-        WorldFault::NotSchematic => push_text(out, "not a schematic").ok(),
-        WorldFault::Empty => push_text(out, "empty").ok(),
-        WorldFault::OutOfRange => push_text(out, "out of range").ok(),
+        WorldFault::Compressed => {
+            out.text("compressed");
+            Some(())
+        }
+        WorldFault::NotSchematic => {
+            out.text("not a schematic");
+            Some(())
+        }
+        WorldFault::Empty => {
+            out.text("empty");
+            Some(())
+        }
+        WorldFault::OutOfRange => {
+            out.text("out of range");
+            Some(())
+        }
         WorldFault::Nbt(fault) => tell_nbt(out, fault),
-        WorldFault::Missing(field) => tell_field(out, "missing ", field),
-        WorldFault::WrongType(field) => tell_field(out, "wrong type ", field),
+        WorldFault::Missing(field) => {
+            tell_field(out, "missing ", field);
+            Some(())
+        }
+        WorldFault::WrongType(field) => {
+            tell_field(out, "wrong type ", field);
+            Some(())
+        }
         _ => tell_number(out, fault),
     }
 }
 
-fn tell_number(out: &mut Vec<u8>, fault: WorldFault) -> Option<()> {
+fn tell_number(out: &mut Answer, fault: WorldFault) -> Option<()> {
     match fault {
         WorldFault::Version(version) => {
-            push_text(out, "version ").ok()?;
-            push_number(out, version).ok()
+            out.text("version ");
+            out.number(version);
+            Some(())
         }
         WorldFault::TooLarge { volume } => {
-            push_text(out, "too large ").ok()?;
-            push_number(out, volume).ok()
+            out.text("too large ");
+            out.number(volume);
+            Some(())
         }
         WorldFault::BadState { index, fault } => {
             tell(out, "palette entry ", index)?;
-            push_text(out, ": ").ok()?;
-            tell_state(out, fault)
+            out.text(": ");
+            tell_state(out, fault);
+            Some(())
         }
         _ => tell_data(out, fault),
     }
 }
 
-fn tell_data(out: &mut Vec<u8>, fault: WorldFault) -> Option<()> {
+fn tell_data(out: &mut Answer, fault: WorldFault) -> Option<()> {
     match fault {
         WorldFault::BadIndex { cell, value } => {
             tell(out, "cell ", cell)?;
@@ -59,34 +83,43 @@ fn tell_data(out: &mut Vec<u8>, fault: WorldFault) -> Option<()> {
         }
         WorldFault::ShortData { cells } => {
             tell(out, "block data short after ", cells)?;
-            push_text(out, " cells").ok()
+            out.text(" cells");
+            Some(())
         }
         WorldFault::LongData { bytes } => {
             tell(out, "block data has ", bytes)?;
-            push_text(out, " bytes too many").ok()
+            out.text(" bytes too many");
+            Some(())
         }
         WorldFault::BadVarint { byte } => tell(out, "bad varint at ", byte),
-        _ => None,
+        _ => {
+            out.fail();
+            Some(())
+        }
     }
 }
 
-fn tell_state(out: &mut Vec<u8>, fault: StateFault) -> Option<()> {
+fn tell_state(out: &mut Answer, fault: StateFault) {
     let text = match fault {
         StateFault::BadName => "bad name",
         StateFault::BadProperty => "bad property",
         StateFault::RepeatedKey => "repeated key",
         StateFault::TooManyProperties => "too many properties",
-        StateFault::Memory => return None,
+        StateFault::Memory => {
+            out.fail();
+            return;
+        }
     };
-    push_text(out, text).ok()
+    out.text(text)
 }
 
-fn tell(out: &mut Vec<u8>, text: &str, number: u32) -> Option<()> {
-    push_text(out, text).ok()?;
-    push_number(out, number).ok()
+fn tell(out: &mut Answer, text: &str, number: u32) -> Option<()> {
+    out.text(text);
+    out.number(number);
+    Some(())
 }
 
-fn tell_field(out: &mut Vec<u8>, text: &str, field: Field) -> Option<()> {
-    push_text(out, text).ok()?;
-    push_text(out, field.name()).ok()
+fn tell_field(out: &mut Answer, text: &str, field: Field) {
+    out.text(text);
+    out.text(field.name())
 }

@@ -15,14 +15,14 @@ mod show;
 mod tags;
 mod words;
 
-use case_lines::{Cases, run_cases};
+use case_lines::{Answer, Cases, run_cases};
 use std::alloc::Global;
 use std::io;
 
 struct FileCases;
 
 impl Cases for FileCases {
-    fn answer(&self, alloc: Global, kind: &str, input: &str, answer: &mut Vec<u8>) -> Option<()> {
+    fn answer(&self, alloc: Global, kind: &str, input: &str, answer: &mut Answer) -> Option<()> {
         match kind {
             "bytes" | "tag" | "again" | "copy" => tags::answer(alloc, kind, input, answer),
             "row" | "row-again" | "read-row" => tags::answer_row(alloc, kind, input, answer),

@@ -4,10 +4,10 @@
 
 use crate::again::written;
 use crate::words::put_words;
-use case_lines::{push_number, push_text};
+use case_lines::{Answer, push_number};
 use std::alloc::Global;
 
-pub fn answer(alloc: Global, input: &str, answer: &mut Vec<u8>) -> Option<()> {
+pub fn answer(alloc: Global, input: &str, answer: &mut Answer) -> Option<()> {
     let (count, head) = input.split_once(' ')?;
     let count = count.parse::<u32>().ok()?;
     let read = file_of(alloc, head, count, true)?;
@@ -18,18 +18,19 @@ pub fn answer(alloc: Global, input: &str, answer: &mut Vec<u8>) -> Option<()> {
         *found == *wanted,
         "numbered anew",
         "numbered otherwise",
-    )?;
+    );
     let found = written(alloc, &wanted)?;
     tell(
         answer,
         *found == *wanted,
         ", and then kept",
         ", and then changed",
-    )
+    );
+    Some(())
 }
 
-fn tell(answer: &mut Vec<u8>, is_so: bool, yes: &str, no: &str) -> Option<()> {
-    push_text(answer, if is_so { yes } else { no }).ok()
+fn tell(answer: &mut Answer, is_so: bool, yes: &str, no: &str) {
+    answer.text(if is_so { yes } else { no });
 }
 
 /// A file of these words and so many states, which are named by numbers that fall in index order. Their palette has them

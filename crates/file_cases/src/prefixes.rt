@@ -6,12 +6,12 @@
 use crate::faults::{tell_nbt, tell_world};
 use crate::tags::TOO_MANY;
 use crate::words::spell;
-use case_lines::{push_number, push_text};
+use case_lines::Answer;
 use nbt_tags::{NbtFault, decode};
 use sponge_schematic::{WorldFault, read_world};
 use std::alloc::Global;
 
-pub fn answer(alloc: Global, kind: &str, input: &str, answer: &mut Vec<u8>) -> Option<()> {
+pub fn answer(alloc: Global, kind: &str, input: &str, answer: &mut Answer) -> Option<()> {
     let bytes = spell(alloc, input)?;
     let mut last = None;
     for length in 0..bytes.len() {
@@ -35,19 +35,19 @@ fn fault_of(alloc: Global, kind: &str, bytes: &[u8]) -> Option<WorldFault> {
     }
 }
 
-fn tell_change(answer: &mut Vec<u8>, length: usize, fault: WorldFault) -> Option<()> {
+fn tell_change(answer: &mut Answer, length: usize, fault: WorldFault) -> Option<()> {
     if !answer.is_empty() {
-        push_text(answer, " ").ok()?;
+        answer.text(" ");
     }
-    push_number(answer, length).ok()?;
+    answer.number(length);
     match fault {
         WorldFault::Nbt(NbtFault::Short { at }) if at as usize == length => Some(()),
         WorldFault::Nbt(fault) => {
-            push_text(answer, "/").ok()?;
+            answer.text("/");
             tell_nbt(answer, fault)
         }
         _ => {
-            push_text(answer, "/").ok()?;
+            answer.text("/");
             tell_world(answer, fault)
         }
     }

@@ -9,13 +9,13 @@ use crate::show::show_row;
 use crate::tags::TOO_MANY;
 use crate::words::{put_words, spell};
 use block_state::write_state;
-use case_lines::{push_number, push_text};
+use case_lines::Answer;
 use edit_terms::{Entity, Grid, Pos, WorldBox};
 use nbt_tags::read_row;
 use sponge_schematic::read_world;
 use std::alloc::Global;
 
-pub fn answer(alloc: Global, kind: &str, input: &str, answer: &mut Vec<u8>) -> Option<()> {
+pub fn answer(alloc: Global, kind: &str, input: &str, answer: &mut Answer) -> Option<()> {
     let bytes = match kind {
         "file" => spell(alloc, input)?,
         _ => framed(alloc, input)?,
@@ -24,7 +24,7 @@ pub fn answer(alloc: Global, kind: &str, input: &str, answer: &mut Vec<u8>) -> O
 }
 
 /// The state at a position of the world that the tags of these words give.
-pub fn answer_cell(alloc: Global, input: &str, answer: &mut Vec<u8>) -> Option<()> {
+pub fn answer_cell(alloc: Global, input: &str, answer: &mut Answer) -> Option<()> {
     let (position, words) = input.split_once(' ')?;
     let p = position_of(position)?;
     let bytes = framed(alloc, words)?;
@@ -33,10 +33,14 @@ pub fn answer_cell(alloc: Global, input: &str, answer: &mut Vec<u8>) -> Option<(
     }
     let world = read_world(alloc, &bytes).ok()?;
     match world.grid.get(p) {
-        Some(state) => answer
-            .extend_from_slice(&write_state(alloc, state).ok()?)
-            .ok(),
-        None => push_text(answer, "outside").ok(),
+        Some(state) => {
+            answer.bytes(&write_state(alloc, state).ok()?);
+            Some(())
+        }
+        None => {
+            answer.text("outside");
+            Some(())
+        }
     }
 }
 
@@ -58,7 +62,7 @@ pub fn framed(alloc: Global, words: &str) -> Option<Vec<u8>> {
     Some(bytes)
 }
 
-fn answer_read(alloc: Global, bytes: &[u8], answer: &mut Vec<u8>) -> Option<()> {
+fn answer_read(alloc: Global, bytes: &[u8], answer: &mut Answer) -> Option<()> {
     if bytes.len() > TOO_MANY {
         return None;
     }
@@ -68,10 +72,10 @@ fn answer_read(alloc: Global, bytes: &[u8], answer: &mut Vec<u8>) -> Option<()> 
     }
 }
 
-fn tell_grid(alloc: Global, answer: &mut Vec<u8>, grid: &Grid) -> Option<()> {
-    tell_box(answer, grid.area())?;
+fn tell_grid(alloc: Global, answer: &mut Answer, grid: &Grid) -> Option<()> {
+    tell_box(answer, grid.area());
     for index in 0..grid.area().volume() {
-        tell_state(alloc, answer, grid, index)?;
+        tell_state(alloc, answer, grid, index);
     }
     for (at, entity) in grid.entities() {
         tell_entity(alloc, answer, at, entity)?;
@@ -79,44 +83,54 @@ fn tell_grid(alloc: Global, answer: &mut Vec<u8>, grid: &Grid) -> Option<()> {
     Some(())
 }
 
-fn tell_box(answer: &mut Vec<u8>, area: &WorldBox) -> Option<()> {
-    push_number(answer, area.width()).ok()?;
-    push_text(answer, "x").ok()?;
-    push_number(answer, area.height()).ok()?;
-    push_text(answer, "x").ok()?;
-    push_number(answer, area.length()).ok()?;
-    push_text(answer, " at ").ok()?;
+fn tell_box(answer: &mut Answer, area: &WorldBox) {
+    answer.number(area.width());
+    answer.text("x");
+    answer.number(area.height());
+    answer.text("x");
+    answer.number(area.length());
+    answer.text(" at ");
     tell_position(answer, &area.least())
 }
 
-fn tell_position(answer: &mut Vec<u8>, p: &Pos) -> Option<()> {
-    push_number(answer, p.x).ok()?;
-    push_text(answer, ",").ok()?;
-    push_number(answer, p.y).ok()?;
-    push_text(answer, ",").ok()?;
-    push_number(answer, p.z).ok()
+fn tell_position(answer: &mut Answer, p: &Pos) {
+    answer.number(p.x);
+    answer.text(",");
+    answer.number(p.y);
+    answer.text(",");
+    answer.number(p.z)
 }
 
-fn tell_state(alloc: Global, answer: &mut Vec<u8>, grid: &Grid, index: u32) -> Option<()> {
-    let state = grid.get(grid.area().position(index)?)?;
-    push_text(answer, " ").ok()?;
-    let text = write_state(alloc, state).ok()?;
-    answer.extend_from_slice(&text).ok()
+fn tell_state(alloc: Global, answer: &mut Answer, grid: &Grid, index: u32) {
+    let Some(state) = grid.area().position(index).and_then(|p| grid.get(p)) else {
+        answer.fail();
+        return;
+    };
+    answer.text(" ");
+    let Some(text) = write_state(alloc, state).ok() else {
+        answer.fail();
+        return;
+    };
+    answer.bytes(&text)
 }
 
-fn tell_entity(alloc: Global, answer: &mut Vec<u8>, at: &Pos, entity: &Entity) -> Option<()> {
-    push_text(answer, "; ").ok()?;
-    tell_position(answer, at)?;
-    push_text(answer, " has ").ok()?;
+fn tell_entity(alloc: Global, answer: &mut Answer, at: &Pos, entity: &Entity) -> Option<()> {
+    answer.text("; ");
+    tell_position(answer, at);
+    answer.text(" has ");
     tell_tags(alloc, answer, entity.before())?;
-    push_text(answer, " Pos ").ok()?;
+    answer.text(" Pos ");
     tell_tags(alloc, answer, entity.after())
 }
 
 /// The tags that these bytes spell, in brackets.
-fn tell_tags(alloc: Global, answer: &mut Vec<u8>, bytes: &[u8]) -> Option<()> {
-    let row = read_row(alloc, bytes, 3).ok()??;
-    push_text(answer, "[").ok()?;
+fn tell_tags(alloc: Global, answer: &mut Answer, bytes: &[u8]) -> Option<()> {
+    let Ok(Some(row)) = read_row(alloc, bytes, 3) else {
+        answer.fail();
+        return Some(());
+    };
+    answer.text("[");
     show_row(alloc, answer, row.as_slice())?;
-    push_text(answer, "]").ok()
+    answer.text("]");
+    Some(())
 }

@@ -1,68 +1,74 @@
 //! Tags as the words that spell them.
 
-use case_lines::{push_number, push_text};
+use case_lines::Answer;
 use nbt_tags::{Named, Tag};
 use std::alloc::Global;
 
 /// A named tag.
 #[cycle(show)]
-pub fn show_named(alloc: Global, out: &mut Vec<u8>, named: &Named) -> Option<()> {
-    push_text(out, word_of(&named.tag)).ok()?;
-    push_text(out, ":").ok()?;
-    show_text(alloc, out, named.name.as_slice())?;
+pub fn show_named(alloc: Global, out: &mut Answer, named: &Named) -> Option<()> {
+    out.text(word_of(&named.tag));
+    out.text(":");
+    show_text(alloc, out, named.name.as_slice());
     if is_compound(&named.tag) {
-        push_text(out, "{").ok()?;
+        out.text("{");
     }
     show_value(alloc, out, &named.tag)
 }
 
 /// A tag without a name.
 #[cycle(show)]
-fn show_item(alloc: Global, out: &mut Vec<u8>, tag: &Tag) -> Option<()> {
+fn show_item(alloc: Global, out: &mut Answer, tag: &Tag) -> Option<()> {
     if is_compound(tag) {
-        push_text(out, "{").ok()?;
+        out.text("{");
     } else {
-        push_text(out, word_of(tag)).ok()?;
+        out.text(word_of(tag));
     }
     show_value(alloc, out, tag)
 }
 
 /// What stands behind a tag's type and name.
 #[cycle(show)]
-fn show_value(alloc: Global, out: &mut Vec<u8>, tag: &Tag) -> Option<()> {
+fn show_value(alloc: Global, out: &mut Answer, tag: &Tag) -> Option<()> {
     match tag {
         Tag::List { element, items } => {
-            show_list(out, *element, items.as_slice().len())?;
+            show_list(out, *element, items.as_slice().len());
             show_items(alloc, out, items.as_slice())
         }
         Tag::Compound(row) => {
-            show_inner(alloc, out, row.as_slice())?;
-            push_text(out, " }").ok()
+            {
+                show_inner(alloc, out, row.as_slice())?;
+                out.text(" }");
+                Some(())
+            }
         }
-        _ => show_plain(alloc, out, tag),
+        _ => {
+            show_plain(alloc, out, tag);
+            Some(())
+        }
     }
 }
 
 #[cycle(show)]
-fn show_items(alloc: Global, out: &mut Vec<u8>, items: &[Tag]) -> Option<()> {
+fn show_items(alloc: Global, out: &mut Answer, items: &[Tag]) -> Option<()> {
     for item in items {
-        push_text(out, " ").ok()?;
+        out.text(" ");
         show_item(alloc, out, item)?;
     }
     Some(())
 }
 
 #[cycle(show)]
-fn show_inner(alloc: Global, out: &mut Vec<u8>, row: &[Named]) -> Option<()> {
+fn show_inner(alloc: Global, out: &mut Answer, row: &[Named]) -> Option<()> {
     for named in row {
-        push_text(out, " ").ok()?;
+        out.text(" ");
         show_named(alloc, out, named)?;
     }
     Some(())
 }
 
 /// Named tags, with blanks between them.
-pub fn show_row(alloc: Global, out: &mut Vec<u8>, row: &[Named]) -> Option<()> {
+pub fn show_row(alloc: Global, out: &mut Answer, row: &[Named]) -> Option<()> {
     let Some((first, others)) = row.split_first() else {
         return Some(());
     };
@@ -92,14 +98,14 @@ fn word_of(tag: &Tag) -> &'static str {
 }
 
 /// `=TYPE*COUNT` of a list.
-fn show_list(out: &mut Vec<u8>, element: u8, count: usize) -> Option<()> {
-    push_text(out, "=").ok()?;
+fn show_list(out: &mut Answer, element: u8, count: usize) {
+    out.text("=");
     match element_word(element) {
-        Some(word) => push_text(out, word).ok()?,
-        None => push_number(out, element).ok()?,
+        Some(word) => out.text(word),
+        None => out.number(element),
     }
-    push_text(out, "*").ok()?;
-    push_number(out, count).ok()
+    out.text("*");
+    out.number(count)
 }
 
 fn element_word(byte: u8) -> Option<&'static str> {
@@ -121,64 +127,66 @@ fn element_word(byte: u8) -> Option<&'static str> {
 }
 
 /// The value of a tag that holds no tags.
-fn show_plain(alloc: Global, out: &mut Vec<u8>, tag: &Tag) -> Option<()> {
-    push_text(out, "=").ok()?;
+fn show_plain(alloc: Global, out: &mut Answer, tag: &Tag) {
+    out.text("=");
     match tag {
-        Tag::Byte(number) => push_number(out, *number).ok(),
-        Tag::Short(number) => push_number(out, *number).ok(),
-        Tag::Int(number) => push_number(out, *number).ok(),
-        Tag::Long(number) => push_number(out, *number).ok(),
+        Tag::Byte(number) => out.number(*number),
+        Tag::Short(number) => out.number(*number),
+        Tag::Int(number) => out.number(*number),
+        Tag::Long(number) => out.number(*number),
         Tag::Float(bits) => show_hex(alloc, out, &bits.to_be_bytes()),
         Tag::Double(bits) => show_hex(alloc, out, &bits.to_be_bytes()),
         _ => show_array(alloc, out, tag),
     }
 }
 
-fn show_array(alloc: Global, out: &mut Vec<u8>, tag: &Tag) -> Option<()> {
+fn show_array(alloc: Global, out: &mut Answer, tag: &Tag) {
     match tag {
         Tag::ByteArray(bytes) => show_hex(alloc, out, bytes.as_slice()),
         Tag::Str(text) => show_text(alloc, out, text.as_slice()),
         Tag::IntArray(numbers) => show_ints(out, numbers.as_slice()),
         Tag::LongArray(numbers) => show_longs(out, numbers.as_slice()),
-        _ => None,
+        _ => out.fail(),
     }
 }
 
 /// Bytes in hexadecimal.
-pub fn show_hex(alloc: Global, out: &mut Vec<u8>, bytes: &[u8]) -> Option<()> {
-    let digits = hex::encode(alloc, bytes).ok()?;
-    push_text(out, digits.as_str()).ok()
+pub fn show_hex(alloc: Global, out: &mut Answer, bytes: &[u8]) {
+    let Some(digits) = hex::encode(alloc, bytes).ok() else {
+        out.fail();
+        return;
+    };
+    out.text(digits.as_str())
 }
 
 /// A text, or `x` and its bytes in hexadecimal where one of them is no graphic character of ASCII.
-fn show_text(alloc: Global, out: &mut Vec<u8>, text: &[u8]) -> Option<()> {
+fn show_text(alloc: Global, out: &mut Answer, text: &[u8]) {
     if text.iter().all(|byte| *byte > b' ' && *byte < 127) {
-        return out.extend_from_slice(text).ok();
+        out.bytes(text);
+        return;
     }
-    push_text(out, "x").ok()?;
+    out.text("x");
     show_hex(alloc, out, text)
 }
 
-fn show_ints(out: &mut Vec<u8>, numbers: &[i32]) -> Option<()> {
+fn show_ints(out: &mut Answer, numbers: &[i32]) {
     for (place, number) in numbers.iter().enumerate() {
-        show_comma(out, place)?;
-        push_number(out, *number).ok()?;
+        show_comma(out, place);
+        out.number(*number);
     }
-    Some(())
 }
 
-fn show_longs(out: &mut Vec<u8>, numbers: &[i64]) -> Option<()> {
+fn show_longs(out: &mut Answer, numbers: &[i64]) {
     for (place, number) in numbers.iter().enumerate() {
-        show_comma(out, place)?;
-        push_number(out, *number).ok()?;
+        show_comma(out, place);
+        out.number(*number);
     }
-    Some(())
 }
 
 /// A comma behind the numbers before this place, if there are any.
-fn show_comma(out: &mut Vec<u8>, place: usize) -> Option<()> {
+fn show_comma(out: &mut Answer, place: usize) {
     if place == 0 {
-        return Some(());
+        return;
     }
-    push_text(out, ",").ok()
+    out.text(",")
 }

@@ -6,6 +6,7 @@ use crate::plans::fails_of;
 use crate::runs::sink_of;
 use crate::words::words_of;
 use crate::worlds::file_of;
+use case_lines::Answer;
 use edit_top::check;
 use run_ports::{DiskShelf, MemoryShelf};
 use std::alloc::Global;
@@ -13,7 +14,7 @@ use std::rt::Files;
 
 /// A check `WORDS ; WORLD` or `WORDS ; WORLD ; CALLS`, where these calls fail. The world is the file in.schem, and `-`
 /// stands for the words that check it.
-pub fn answer(alloc: Global, input: &str, answer: &mut Vec<u8>) -> Option<()> {
+pub fn answer(alloc: Global, input: &str, answer: &mut Answer) -> Option<()> {
     let (words, rest) = input.split_once(" ; ")?;
     let (world, calls) = rest.split_once(" ; ").unwrap_or((rest, ""));
     let mut shelf = shelf_of(alloc, world, calls)?;
@@ -31,12 +32,13 @@ fn check_over(
     words: &str,
     shelf: &mut MemoryShelf,
     calls: &str,
-    answer: &mut Vec<u8>,
+    answer: &mut Answer,
 ) -> Option<()> {
     let words = words_of(alloc, words, "check in.schem")?;
     let mut sink = sink_of(alloc, calls)?;
     let status = check(alloc, &words, shelf, &mut sink);
-    push_ending(&status, sink.written(), answer)
+    push_ending(&status, sink.written(), answer);
+    Some(())
 }
 
 /// A check by these words of a file that lies where the program runs.
@@ -44,10 +46,11 @@ pub fn answer_on_disk<R: Files>(
     rt: &R,
     alloc: Global,
     input: &str,
-    answer: &mut Vec<u8>,
+    answer: &mut Answer,
 ) -> Option<()> {
     let words = words_of(alloc, input, "")?;
     let mut sink = sink_of(alloc, "")?;
     let status = check(alloc, &words, &mut DiskShelf::new(rt), &mut sink);
-    push_ending(&status, sink.written(), answer)
+    push_ending(&status, sink.written(), answer);
+    Some(())
 }

@@ -3,7 +3,7 @@
 use crate::endings::push_ending;
 use crate::runs::{Shown, push_saved, sink_of};
 use crate::words::words_of;
-use case_lines::push_text;
+use case_lines::Answer;
 use edit_top::run;
 use run_ports::{DiskShelf, LoadError, OpenGate, Shelf};
 use std::alloc::Global;
@@ -17,14 +17,14 @@ pub fn answer<R: Threads + Wait + Sync, D: Files>(
     disk: &D,
     alloc: Global,
     input: &str,
-    answer: &mut Vec<u8>,
+    answer: &mut Answer,
 ) -> Option<()> {
     let words = words_of(alloc, input, "")?;
     run_over(rt, disk, alloc, &words, answer)?;
     let [_call, _world, out, ..] = words.as_slice() else {
         return Some(());
     };
-    push_text(answer, "; ").ok()?;
+    answer.text("; ");
     push_left(disk, alloc, out.as_str(), answer)
 }
 
@@ -33,19 +33,29 @@ fn run_over<R: Threads + Wait + Sync, D: Files>(
     disk: &D,
     alloc: Global,
     words: &[String],
-    answer: &mut Vec<u8>,
+    answer: &mut Answer,
 ) -> Option<()> {
     let mut shelf = DiskShelf::new(disk);
     let mut sink = sink_of(alloc, "")?;
     let status = run(rt, alloc, words, &mut shelf, &mut sink, &OpenGate);
-    push_ending(&status, sink.written(), answer)
+    push_ending(&status, sink.written(), answer);
+    Some(())
 }
 
-fn push_left<D: Files>(disk: &D, alloc: Global, name: &str, answer: &mut Vec<u8>) -> Option<()> {
+fn push_left<D: Files>(disk: &D, alloc: Global, name: &str, answer: &mut Answer) -> Option<()> {
     let mut shelf = DiskShelf::new(disk);
     match shelf.load(alloc, name, 1_000_000) {
-        Ok(bytes) => push_saved(alloc, &bytes, Shown::Blocks, answer),
-        Err(LoadError::Failed) => push_text(answer, "none").ok(),
-        Err(_) => None,
+        Ok(bytes) => {
+            push_saved(alloc, &bytes, Shown::Blocks, answer);
+            Some(())
+        }
+        Err(LoadError::Failed) => {
+            answer.text("none");
+            Some(())
+        }
+        Err(_) => {
+            answer.fail();
+            Some(())
+        }
     }
 }

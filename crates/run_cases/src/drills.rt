@@ -3,6 +3,7 @@
 use crate::endings::push_ending;
 use crate::runs::sink_of;
 use crate::words::words_of;
+use case_lines::Answer;
 use edit_top::drill;
 use run_ports::OpenGate;
 use std::alloc::Global;
@@ -14,11 +15,12 @@ pub fn answer<R: Threads + Wait + Sync>(
     rt: &R,
     alloc: Global,
     input: &str,
-    answer: &mut Vec<u8>,
+    answer: &mut Answer,
 ) -> Option<()> {
     let (words, calls) = input.split_once(" ; ").unwrap_or((input, ""));
     let words = words_of(alloc, words, "")?;
     let mut sink = sink_of(alloc, calls)?;
     let status = drill(rt, alloc, &words, &mut sink, &OpenGate);
-    push_ending(&status, sink.written(), answer)
+    push_ending(&status, sink.written(), answer);
+    Some(())
 }

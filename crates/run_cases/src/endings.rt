@@ -1,14 +1,15 @@
 //! Statuses and printed texts as answers.
 
-use case_lines::{push_number, push_text};
+use case_lines::Answer;
 use command_syntax::ScriptFault;
 use edit_top::Status;
 use sponge_schematic::WorldFault;
 
 /// The code of a status that is named.
-pub fn answer(name: &str, answer: &mut Vec<u8>) -> Option<()> {
+pub fn answer(name: &str, answer: &mut Answer) -> Option<()> {
     let status = status_of(name)?;
-    push_status(&status, answer)
+    push_status(&status, answer);
+    Some(())
 }
 
 fn status_of(name: &str) -> Option<Status> {
@@ -34,57 +35,56 @@ fn status_of(name: &str) -> Option<Status> {
 }
 
 /// Puts a status and a printed text behind an answer.
-pub fn push_ending(status: &Status, printed: &[u8], answer: &mut Vec<u8>) -> Option<()> {
-    push_status(status, answer)?;
-    push_text(answer, "; ").ok()?;
+pub fn push_ending(status: &Status, printed: &[u8], answer: &mut Answer) {
+    push_status(status, answer);
+    answer.text("; ");
     push_printed(printed, answer)
 }
 
 /// Puts a status behind an answer: its code, its name and its numbers.
-pub fn push_status(status: &Status, answer: &mut Vec<u8>) -> Option<()> {
-    push_number(answer, status.code()).ok()?;
+pub fn push_status(status: &Status, answer: &mut Answer) {
+    answer.number(status.code());
     match status {
-        Status::Done => push_text(answer, " Done").ok(),
-        Status::Usage => push_text(answer, " Usage").ok(),
+        Status::Done => answer.text(" Done"),
+        Status::Usage => answer.text(" Usage"),
         Status::ReadFault { file } => push_numbered(" ReadFault ", *file, answer),
         Status::TooLong { file } => push_numbered(" TooLong ", *file, answer),
-        Status::WorldRefused { .. } => push_text(answer, " WorldRefused").ok(),
+        Status::WorldRefused { .. } => answer.text(" WorldRefused"),
         Status::ScriptRefused { script, .. } => push_numbered(" ScriptRefused ", *script, answer),
         Status::DuplicatePlayer { script } => push_numbered(" DuplicatePlayer ", *script, answer),
         Status::TooManyJobs { jobs } => {
-            push_text(answer, " TooManyJobs ").ok()?;
-            push_number(answer, *jobs).ok()
+            answer.text(" TooManyJobs ");
+            answer.number(*jobs)
         }
-        Status::SaveFault => push_text(answer, " SaveFault").ok(),
-        Status::PrintFault => push_text(answer, " PrintFault").ok(),
-        Status::OutOfMemory => push_text(answer, " OutOfMemory").ok(),
+        Status::SaveFault => answer.text(" SaveFault"),
+        Status::PrintFault => answer.text(" PrintFault"),
+        Status::OutOfMemory => answer.text(" OutOfMemory"),
     }
 }
 
-fn push_numbered(name: &str, number: u32, answer: &mut Vec<u8>) -> Option<()> {
-    push_text(answer, name).ok()?;
-    push_number(answer, number).ok()
+fn push_numbered(name: &str, number: u32, answer: &mut Answer) {
+    answer.text(name);
+    answer.number(number)
 }
 
 /// Shows a printed text: whole lines with ` | ` between them. A text that ends inside a line has `..` behind it, and one
 /// without bytes is `nothing`.
-fn push_printed(text: &[u8], answer: &mut Vec<u8>) -> Option<()> {
+fn push_printed(text: &[u8], answer: &mut Answer) {
     match text {
-        [] => push_text(answer, "nothing").ok(),
+        [] => answer.text("nothing"),
         [lines @ .., b'\n'] => push_lines(lines, answer),
         _ => {
-            push_lines(text, answer)?;
-            push_text(answer, "..").ok()
+            push_lines(text, answer);
+            answer.text("..");
         }
     }
 }
 
-fn push_lines(text: &[u8], answer: &mut Vec<u8>) -> Option<()> {
+fn push_lines(text: &[u8], answer: &mut Answer) {
     for byte in text {
         match byte {
-            b'\n' => push_text(answer, " | ").ok()?,
-            byte => answer.push(*byte).ok()?,
+            b'\n' => answer.text(" | "),
+            byte => answer.byte(*byte),
         }
     }
-    Some(())
 }

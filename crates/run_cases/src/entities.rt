@@ -4,7 +4,7 @@
 
 use crate::numbers::{push_three, three_of};
 use crate::tags::{push_head, push_ints, push_string, push_u32};
-use case_lines::push_text;
+use case_lines::Answer;
 
 /// Puts a list of compounds.
 pub fn push_entities(file: &mut Vec<u8>, entries: &str) -> Option<()> {
@@ -37,12 +37,12 @@ fn push_piece(file: &mut Vec<u8>, piece: &str) -> Option<()> {
 }
 
 /// Shows a list of compounds, and gives what stands behind it.
-pub fn show_entities<'a>(bytes: &'a [u8], answer: &mut Vec<u8>) -> Option<&'a [u8]> {
+pub fn show_entities<'a>(bytes: &'a [u8], answer: &mut Answer) -> Option<&'a [u8]> {
     let list = bytes.strip_prefix(b"\x09\x00\x0DBlockEntities\x0A".as_slice())?;
     let (count, mut rest) = u32_at(list)?;
-    push_text(answer, " / entities").ok()?;
+    answer.text(" / entities");
     for _ in 0..count {
-        push_text(answer, " ").ok()?;
+        answer.text(" ");
         rest = show_entry(rest, answer)?;
     }
     Some(rest)
@@ -51,38 +51,38 @@ pub fn show_entities<'a>(bytes: &'a [u8], answer: &mut Vec<u8>) -> Option<&'a [u
 /// The most tags of an entry that is shown.
 const MOST_TAGS: usize = 16;
 
-fn show_entry<'a>(bytes: &'a [u8], answer: &mut Vec<u8>) -> Option<&'a [u8]> {
+fn show_entry<'a>(bytes: &'a [u8], answer: &mut Answer) -> Option<&'a [u8]> {
     let mut rest = show_piece(bytes, answer)?;
     for _ in 1..MOST_TAGS {
         if let [0, after @ ..] = rest {
             return Some(after);
         }
-        push_text(answer, "+").ok()?;
+        answer.text("+");
         rest = show_piece(rest, answer)?;
     }
     None
 }
 
-fn show_piece<'a>(bytes: &'a [u8], answer: &mut Vec<u8>) -> Option<&'a [u8]> {
+fn show_piece<'a>(bytes: &'a [u8], answer: &mut Answer) -> Option<&'a [u8]> {
     match bytes.strip_prefix(b"\x0B\x00\x03Pos\x00\x00\x00\x03".as_slice()) {
         Some(numbers) => show_place(numbers, answer),
         None => show_text(bytes.strip_prefix(b"\x08".as_slice())?, answer),
     }
 }
 
-fn show_place<'a>(bytes: &'a [u8], answer: &mut Vec<u8>) -> Option<&'a [u8]> {
+fn show_place<'a>(bytes: &'a [u8], answer: &mut Answer) -> Option<&'a [u8]> {
     let (numbers, rest) = ints_at(bytes)?;
-    push_text(answer, "@").ok()?;
-    push_three(&numbers, ",", answer)?;
+    answer.text("@");
+    push_three(&numbers, ",", answer);
     Some(rest)
 }
 
-fn show_text<'a>(bytes: &'a [u8], answer: &mut Vec<u8>) -> Option<&'a [u8]> {
+fn show_text<'a>(bytes: &'a [u8], answer: &mut Answer) -> Option<&'a [u8]> {
     let (name, rest) = string_at(bytes)?;
     let (text, rest) = string_at(rest)?;
-    answer.extend_from_slice(name).ok()?;
-    push_text(answer, "=").ok()?;
-    answer.extend_from_slice(text).ok()?;
+    answer.bytes(name);
+    answer.text("=");
+    answer.bytes(text);
     Some(rest)
 }
 

@@ -1,6 +1,7 @@
 //! The files of a run in memory.
 
 use crate::{scripts, worlds};
+use case_lines::Answer;
 use run_ports::MemoryShelf;
 use std::alloc::Global;
 
@@ -67,25 +68,24 @@ pub fn push_changed(
     asked: &Asked<'_>,
     shelf: &MemoryShelf,
     out: &str,
-    answer: &mut Vec<u8>,
+    answer: &mut Answer,
 ) -> Option<()> {
-    for file in &files_of(alloc, asked)? {
+    let Some(files) = files_of(alloc, asked) else {
+        answer.fail();
+        return Some(());
+    };
+    for file in &files {
         if file.0.as_str() != out {
-            push_if_changed(file.0.as_str(), &file.1, shelf, answer)?;
+            push_if_changed(file.0.as_str(), &file.1, shelf, answer);
         }
     }
     Some(())
 }
 
-fn push_if_changed(
-    name: &str,
-    bytes: &[u8],
-    shelf: &MemoryShelf,
-    answer: &mut Vec<u8>,
-) -> Option<()> {
-    if shelf.file(name)? == bytes {
-        return Some(());
+fn push_if_changed(name: &str, bytes: &[u8], shelf: &MemoryShelf, answer: &mut Answer) {
+    if shelf.file(name) == Some(bytes) {
+        return;
     }
-    answer.extend_from_slice(b"; changed ").ok()?;
-    answer.extend_from_slice(name.as_bytes()).ok()
+    answer.bytes(b"; changed ");
+    answer.bytes(name.as_bytes())
 }

@@ -1,6 +1,6 @@
 //! Bytes as hexadecimal digits, in words of whole bytes. `3*0900` stands for three times these bytes.
 
-use case_lines::push_text;
+use case_lines::Answer;
 
 /// Puts the bytes behind others.
 pub fn push_bytes_of(hex: &str, bytes: &mut Vec<u8>) -> Option<()> {
@@ -49,24 +49,27 @@ fn half_of(digit: u8) -> Option<u8> {
 }
 
 /// Shows bytes, and no bytes as `empty`.
-pub fn push_hex(bytes: &[u8], answer: &mut Vec<u8>) -> Option<()> {
+pub fn push_hex(bytes: &[u8], answer: &mut Answer) {
     if bytes.is_empty() {
-        return push_text(answer, "empty").ok();
+        answer.text("empty");
+        return;
     }
-    push_text(answer, "hex ").ok()?;
+    answer.text("hex ");
     push_digits(bytes, answer)
 }
 
 /// Puts the hexadecimal digits of bytes behind an answer.
-pub fn push_digits(bytes: &[u8], answer: &mut Vec<u8>) -> Option<()> {
+pub fn push_digits(bytes: &[u8], answer: &mut Answer) {
     for byte in bytes {
-        push_digit(*byte / 16, answer)?;
-        push_digit(*byte % 16, answer)?;
+        push_digit(*byte / 16, answer);
+        push_digit(*byte % 16, answer);
     }
-    Some(())
 }
 
-fn push_digit(value: u8, answer: &mut Vec<u8>) -> Option<()> {
-    let digit = b"0123456789abcdef".get(usize::from(value))?;
-    answer.push(*digit).ok()
+fn push_digit(value: u8, answer: &mut Answer) {
+    let Some(digit) = b"0123456789abcdef".get(usize::from(value)) else {
+        answer.fail();
+        return;
+    };
+    answer.byte(*digit)
 }

@@ -25,7 +25,7 @@ mod tags;
 mod words;
 mod worlds;
 
-use case_lines::{is_case, parts_of, tell_case};
+use case_lines::{Answer, is_case, parts_of, tell_case};
 use runs::Shown;
 use std::alloc::Global;
 use std::io::{self, BufRead, BufReader};
@@ -59,7 +59,7 @@ fn try_case<R: Print + AllocGlobal + Threads + Wait + Sync, D: Files>(
     disk: &D,
     line: &str,
 ) -> io::Result<()> {
-    let mut found = Vec::new(rt.alloc());
+    let mut found = Answer::new(rt.alloc());
     let answered = answer_line(rt, disk, rt.alloc(), line, &mut found);
     tell_case(rt, line, answered, &found)
 }
@@ -69,7 +69,7 @@ fn answer_line<R: Threads + Wait + Sync, D: Files>(
     disk: &D,
     alloc: Global,
     line: &str,
-    found: &mut Vec<u8>,
+    found: &mut Answer,
 ) -> Option<()> {
     let parts = parts_of(line)?;
     answer(rt, disk, alloc, parts.kind, parts.input, found)
@@ -82,7 +82,7 @@ fn answer<R: Threads + Wait + Sync, D: Files>(
     alloc: Global,
     kind: &str,
     input: &str,
-    answer: &mut Vec<u8>,
+    answer: &mut Answer,
 ) -> Option<()> {
     match kind {
         "run" => runs::answer(rt, alloc, input, Shown::Blocks, answer),
@@ -106,14 +106,20 @@ fn outer_answer<D: Files>(
     alloc: Global,
     kind: &str,
     input: &str,
-    answer: &mut Vec<u8>,
+    answer: &mut Answer,
 ) -> Option<()> {
     match kind {
         "store" => stores::answer(alloc, input, answer),
         "steady_store" => stores::answer_steady(alloc, input, answer),
-        "disk_store" => stores::answer_disk(disk, alloc, input, answer),
+        "disk_store" => {
+            stores::answer_disk(disk, alloc, input, answer);
+            Some(())
+        }
         "output" => outputs::answer(alloc, input, answer),
-        "no_output" => outputs::answer_none(input, answer),
+        "no_output" => {
+            outputs::answer_none(input, answer);
+            Some(())
+        }
         _ => None,
     }
 }

@@ -1,4 +1,4 @@
-use case_lines::{push_number, push_text};
+use case_lines::Answer;
 
 /// The three numbers of a text, with this sign between them.
 pub fn three_of(text: &str, between: char) -> Option<[i32; 3]> {
@@ -12,11 +12,11 @@ pub fn three_of(text: &str, between: char) -> Option<[i32; 3]> {
 }
 
 /// Puts three numbers with this text between them behind an answer.
-pub fn push_three(numbers: &[i32; 3], between: &str, answer: &mut Vec<u8>) -> Option<()> {
+pub fn push_three(numbers: &[i32; 3], between: &str, answer: &mut Answer) {
     let [first, second, third] = *numbers;
-    push_number(answer, first).ok()?;
-    push_text(answer, between).ok()?;
-    push_number(answer, second).ok()?;
-    push_text(answer, between).ok()?;
-    push_number(answer, third).ok()
+    answer.number(first);
+    answer.text(between);
+    answer.number(second);
+    answer.text(between);
+    answer.number(third)
 }

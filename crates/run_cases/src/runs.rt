@@ -9,7 +9,7 @@ use crate::plans::{fails_of, room_of};
 use crate::saved::{show_counts, show_file};
 use crate::words::run_words;
 use crate::worlds::file_of;
-use case_lines::push_text;
+use case_lines::Answer;
 use edit_top::run;
 use run_ports::{MemoryShelf, MemorySink, OpenGate};
 use std::alloc::Global;
@@ -35,7 +35,7 @@ pub fn answer<R: Threads + Wait + Sync>(
     alloc: Global,
     input: &str,
     shown: Shown<'_>,
-    answer: &mut Vec<u8>,
+    answer: &mut Answer,
 ) -> Option<()> {
     let asked = asked_of(input)?;
     answer_with(rt, alloc, &asked, "", shown, answer)
@@ -46,7 +46,7 @@ pub fn answer_same<R: Threads + Wait + Sync>(
     rt: &R,
     alloc: Global,
     input: &str,
-    answer: &mut Vec<u8>,
+    answer: &mut Answer,
 ) -> Option<()> {
     let (input, wanted) = input.rsplit_once(" ; ")?;
     let asked = asked_of(input)?;
@@ -58,7 +58,7 @@ pub fn answer_failing<R: Threads + Wait + Sync>(
     rt: &R,
     alloc: Global,
     input: &str,
-    answer: &mut Vec<u8>,
+    answer: &mut Answer,
 ) -> Option<()> {
     let (calls, input) = input.split_once(" ; ")?;
     let asked = asked_of(input)?;
@@ -71,7 +71,7 @@ fn answer_with<R: Threads + Wait + Sync>(
     asked: &Asked<'_>,
     calls: &str,
     shown: Shown<'_>,
-    answer: &mut Vec<u8>,
+    answer: &mut Answer,
 ) -> Option<()> {
     let words = run_words(alloc, asked.words, asked.scripts)?;
     let mut shelf = shelf_of(alloc, asked, calls)?;
@@ -97,11 +97,12 @@ fn run_over<R: Threads + Wait + Sync>(
     words: &[String],
     shelf: &mut MemoryShelf,
     calls: &str,
-    answer: &mut Vec<u8>,
+    answer: &mut Answer,
 ) -> Option<()> {
     let mut sink = sink_of(alloc, calls)?;
     let status = run(rt, alloc, words, shelf, &mut sink, &OpenGate);
-    push_ending(&status, sink.written(), answer)
+    push_ending(&status, sink.written(), answer);
+    Some(())
 }
 
 /// Shows what OUT holds, which is the third word where there are so many, and which other files changed.
@@ -111,45 +112,36 @@ fn push_left(
     words: &[String],
     shelf: &MemoryShelf,
     shown: Shown<'_>,
-    answer: &mut Vec<u8>,
+    answer: &mut Answer,
 ) -> Option<()> {
     let out = match words {
         [_call, _world, out, ..] => out.as_str(),
         _ => "out.schem",
     };
-    push_text(answer, "; ").ok()?;
-    push_out(alloc, shelf.file(out), shown, answer)?;
+    answer.text("; ");
+    push_out(alloc, shelf.file(out), shown, answer);
     push_changed(alloc, asked, shelf, out, answer)
 }
 
 /// Shows what a file holds: `none` where there is none, and `old` where it was not saved.
-fn push_out(
-    alloc: Global,
-    file: Option<&[u8]>,
-    shown: Shown<'_>,
-    answer: &mut Vec<u8>,
-) -> Option<()> {
+fn push_out(alloc: Global, file: Option<&[u8]>, shown: Shown<'_>, answer: &mut Answer) {
     match file {
-        None => push_text(answer, "none").ok(),
-        Some(b"old") => push_text(answer, "old").ok(),
+        None => answer.text("none"),
+        Some(b"old") => answer.text("old"),
         Some(bytes) => push_saved(alloc, bytes, shown, answer),
     }
 }
 
 /// Shows a saved file.
-pub fn push_saved(
-    alloc: Global,
-    bytes: &[u8],
-    shown: Shown<'_>,
-    answer: &mut Vec<u8>,
-) -> Option<()> {
+pub fn push_saved(alloc: Global, bytes: &[u8], shown: Shown<'_>, answer: &mut Answer) {
     match shown {
         Shown::Blocks => show_file(alloc, bytes, answer),
         Shown::Bytes => push_hex(bytes, answer),
         Shown::Counts => show_counts(alloc, bytes, answer),
-        Shown::Wanted(wanted) if file_of(alloc, wanted)?.as_slice() == bytes => {
-            push_text(answer, "same").ok()
-        }
-        Shown::Wanted(_) => show_file(alloc, bytes, answer),
+        Shown::Wanted(wanted) => match file_of(alloc, wanted) {
+            Some(file) if file.as_slice() == bytes => answer.text("same"),
+            Some(_) => show_file(alloc, bytes, answer),
+            None => answer.fail(),
+        },
     }
 }

@@ -4,7 +4,7 @@ use crate::entities::{ints_at, show_entities, string_at, u16_at, u32_at};
 use crate::hex::{push_digits, push_hex};
 use crate::numbers::push_three;
 use crate::worlds::file_of;
-use case_lines::{push_number, push_text};
+use case_lines::Answer;
 use std::alloc::Global;
 
 /// What stands in every file before the sizes.
@@ -22,10 +22,11 @@ struct Saved<'a> {
 }
 
 /// Shows a file as its world's text, if that text spells exactly its bytes, and else its bytes.
-pub fn show_file(alloc: Global, bytes: &[u8], answer: &mut Vec<u8>) -> Option<()> {
-    let mut text = Vec::new(alloc);
-    match show_world(alloc, bytes, &mut text) {
-        Some(()) if is_spelled(alloc, &text, bytes) => answer.extend_from_slice(&text).ok(),
+pub fn show_file(alloc: Global, bytes: &[u8], answer: &mut Answer) {
+    let mut shown = Answer::new(alloc);
+    show_world(alloc, bytes, &mut shown);
+    match shown.whole() {
+        Some(text) if is_spelled(alloc, text, bytes) => answer.bytes(text),
         _ => push_hex(bytes, answer),
     }
 }
@@ -40,32 +41,37 @@ fn is_spelled(alloc: Global, text: &[u8], bytes: &[u8]) -> bool {
     }
 }
 
-fn show_world(alloc: Global, bytes: &[u8], answer: &mut Vec<u8>) -> Option<()> {
-    let saved = saved_of(alloc, bytes)?;
-    push_three(&saved.sizes, "x", answer)?;
-    push_text(answer, " at ").ok()?;
-    push_three(&saved.least, ",", answer)?;
-    push_runs(&saved.names, &saved.numbers, answer)?;
+fn show_world(alloc: Global, bytes: &[u8], answer: &mut Answer) {
+    let Some(saved) = saved_of(alloc, bytes) else {
+        answer.fail();
+        return;
+    };
+    push_three(&saved.sizes, "x", answer);
+    answer.text(" at ");
+    push_three(&saved.least, ",", answer);
+    push_runs(&saved.names, &saved.numbers, answer);
     push_others(saved.others, answer)
 }
 
 /// Shows how many blocks have each state of a file's palette.
-pub fn show_counts(alloc: Global, bytes: &[u8], answer: &mut Vec<u8>) -> Option<()> {
-    let saved = saved_of(alloc, bytes)?;
+pub fn show_counts(alloc: Global, bytes: &[u8], answer: &mut Answer) {
+    let Some(saved) = saved_of(alloc, bytes) else {
+        answer.fail();
+        return;
+    };
     let mut between = "";
     for (number, name) in saved.names.iter().enumerate() {
-        push_text(answer, between).ok()?;
-        push_count(name, number, &saved.numbers, answer)?;
+        answer.text(between);
+        push_count(name, number, &saved.numbers, answer);
         between = " ";
     }
-    Some(())
 }
 
-fn push_count(name: &[u8], number: usize, numbers: &[usize], answer: &mut Vec<u8>) -> Option<()> {
-    push_name(name, answer)?;
-    push_text(answer, "*").ok()?;
+fn push_count(name: &[u8], number: usize, numbers: &[usize], answer: &mut Answer) {
+    push_name(name, answer);
+    answer.text("*");
     let count = numbers.iter().filter(|other| **other == number).count();
-    push_number(answer, count).ok()
+    answer.number(count)
 }
 
 fn saved_of(alloc: Global, bytes: &[u8]) -> Option<Saved<'_>> {
@@ -135,12 +141,12 @@ fn next_number(low: Option<usize>, byte: usize, numbers: &mut Vec<usize>) -> Opt
 }
 
 /// Shows blocks as runs of states.
-fn push_runs(names: &[&[u8]], numbers: &[usize], answer: &mut Vec<u8>) -> Option<()> {
+fn push_runs(names: &[&[u8]], numbers: &[usize], answer: &mut Answer) {
     let mut last = None;
     let mut count = 0_u64;
     for number in numbers {
         if last != Some(*number) {
-            push_run(names, last, count, answer)?;
+            push_run(names, last, count, answer);
             last = Some(*number);
             count = 0;
         }
@@ -149,43 +155,41 @@ fn push_runs(names: &[&[u8]], numbers: &[usize], answer: &mut Vec<u8>) -> Option
     push_run(names, last, count, answer)
 }
 
-fn push_run(
-    names: &[&[u8]],
-    number: Option<usize>,
-    count: u64,
-    answer: &mut Vec<u8>,
-) -> Option<()> {
+fn push_run(names: &[&[u8]], number: Option<usize>, count: u64, answer: &mut Answer) {
     let Some(number) = number else {
-        return Some(());
+        return;
     };
-    push_text(answer, " ").ok()?;
-    push_name(names.get(number)?, answer)?;
-    if count == 1 {
-        return Some(());
+    answer.text(" ");
+    match names.get(number) {
+        Some(name) => push_name(name, answer),
+        None => answer.fail(),
     }
-    push_text(answer, "*").ok()?;
-    push_number(answer, count).ok()
+    if count != 1 {
+        answer.text("*");
+        answer.number(count);
+    }
 }
 
 /// Shows a state's name, without the usual namespace.
-fn push_name(name: &[u8], answer: &mut Vec<u8>) -> Option<()> {
+fn push_name(name: &[u8], answer: &mut Answer) {
     let short = name.strip_prefix(b"minecraft:".as_slice()).unwrap_or(name);
-    answer.extend_from_slice(short).ok()
+    answer.bytes(short)
 }
 
 /// Shows what stands behind the block data.
-fn push_others(bytes: &[u8], answer: &mut Vec<u8>) -> Option<()> {
+fn push_others(bytes: &[u8], answer: &mut Answer) {
     let rest = if bytes.starts_with(b"\x09\x00\x0DBlockEntities\x0A") {
-        show_entities(bytes, answer)?
+        show_entities(bytes, answer)
     } else {
-        bytes
+        Some(bytes)
     };
-    let [tail @ .., 0] = rest else {
-        return None;
+    let Some([tail @ .., 0]) = rest else {
+        answer.fail();
+        return;
     };
     if tail.is_empty() {
-        return Some(());
+        return;
     }
-    push_text(answer, " / tail ").ok()?;
-    push_digits(tail, answer)
+    answer.text(" / tail ");
+    push_digits(tail, answer);
 }

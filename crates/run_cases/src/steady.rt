@@ -4,7 +4,7 @@ use crate::endings::push_status;
 use crate::files::{Asked, asked_of, files_of};
 use crate::runs::{Shown, push_saved};
 use crate::words::run_words;
-use case_lines::push_text;
+use case_lines::Answer;
 use edit_top::run;
 use run_ports::{NullSink, OpenGate, Shelf, SteadyShelf};
 use std::alloc::Global;
@@ -16,17 +16,19 @@ pub fn answer<R: Threads + Wait + Sync>(
     rt: &R,
     alloc: Global,
     input: &str,
-    answer: &mut Vec<u8>,
+    answer: &mut Answer,
 ) -> Option<()> {
     let asked = asked_of(input)?;
     let mut shelf = SteadyShelf::new(files_of(alloc, &asked)?);
     run_over(rt, alloc, &asked, &mut shelf, answer)?;
-    push_text(answer, "; ").ok()?;
+    answer.text("; ");
     let bytes = shelf.load(alloc, "out.schem", 1_000_000).ok()?;
     if bytes.as_slice() == b"old".as_slice() {
-        return push_text(answer, "old").ok();
+        answer.text("old");
+        return Some(());
     }
-    push_saved(alloc, &bytes, Shown::Blocks, answer)
+    push_saved(alloc, &bytes, Shown::Blocks, answer);
+    Some(())
 }
 
 fn run_over<R: Threads + Wait + Sync>(
@@ -34,9 +36,10 @@ fn run_over<R: Threads + Wait + Sync>(
     alloc: Global,
     asked: &Asked<'_>,
     shelf: &mut SteadyShelf,
-    answer: &mut Vec<u8>,
+    answer: &mut Answer,
 ) -> Option<()> {
     let words = run_words(alloc, asked.words, asked.scripts)?;
     let status = run(rt, alloc, &words, shelf, &mut NullSink::new(), &OpenGate);
-    push_status(&status, answer)
+    push_status(&status, answer);
+    Some(())
 }

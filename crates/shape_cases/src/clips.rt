@@ -6,20 +6,27 @@ ghost use Rattle.clipboard_transform.specs.Bounds.{IsOnMap};
 use crate::regions::selection_of;
 use crate::turns::transform_of;
 use crate::words::{area_of, pos_of, put, put_pos};
+use case_lines::Answer;
 use clipboard_transform::{RelativeBox, clip_box};
 use edit_terms::{Clip, Pos, Selection, Source, Transform};
 
 /// `clip BOX ORIGIN TRANSFORM SELECTION`: the bounds of what was copied from a position, cut by a box and turned: the
 /// least and the greatest position. None where nothing is left.
-pub(crate) fn clip(input: &str, answer: &mut Vec<u8>) -> Option<()> {
+pub(crate) fn clip(input: &str, answer: &mut Answer) -> Option<()> {
     let (word, rest) = input.split_once(' ')?;
     let area = area_of(word)?;
     let (origin, rest) = rest.split_once(' ')?;
     let (t, rest) = rest.split_once(' ')?;
     let clip = clip_of(on_map(origin)?, transform_of(t)?, selection_of(rest)?);
     match clip_box(&clip, &area) {
-        Some(bounds) => put_bounds(&bounds, answer),
-        None => put(answer, "none"),
+        Some(bounds) => {
+            put_bounds(&bounds, answer);
+            Some(())
+        }
+        None => {
+            answer.text("none");
+            Some(())
+        }
     }
 }
 
@@ -48,8 +55,8 @@ fn on_map(word: &str) -> Option<Pos>
     Some(p)
 }
 
-fn put_bounds(bounds: &RelativeBox, answer: &mut Vec<u8>) -> Option<()> {
-    put_pos(&bounds.least, answer)?;
-    put(answer, " to ")?;
+fn put_bounds(bounds: &RelativeBox, answer: &mut Answer) {
+    put_pos(&bounds.least, answer);
+    answer.text(" to ");
     put_pos(&bounds.greatest, answer)
 }

@@ -3,23 +3,30 @@
 
 use crate::words::{area_of, pos_of, put, put_pos};
 use block_state::read_state;
+use case_lines::Answer;
 use edit_terms::{BlockState, Entities, Entity, Grid, Pos, WorldBox};
 use std::alloc::Global;
 use std::sync::Arc;
 
 /// `grid BOX STATES NUMBERS`: the name of each block in index order, with `;` behind it; none where there is no such world.
-pub(crate) fn grid(alloc: Global, input: &str, answer: &mut Vec<u8>) -> Option<()> {
+pub(crate) fn grid(alloc: Global, input: &str, answer: &mut Answer) -> Option<()> {
     let (word, rest) = input.split_once(' ')?;
     let area = area_of(word)?;
     let (states, numbers) = rest.split_once(' ')?;
     match grid_of(alloc, &area, states, numbers)? {
-        Some(grid) => put_names(&grid, answer),
-        None => put(answer, "none"),
+        Some(grid) => {
+            put_names(&grid, answer);
+            Some(())
+        }
+        None => {
+            answer.text("none");
+            Some(())
+        }
     }
 }
 
 /// `cell BOX STATES NUMBERS POSITION`: the name of a block; none outside.
-pub(crate) fn cell(alloc: Global, input: &str, answer: &mut Vec<u8>) -> Option<()> {
+pub(crate) fn cell(alloc: Global, input: &str, answer: &mut Answer) -> Option<()> {
     let (word, rest) = input.split_once(' ')?;
     let area = area_of(word)?;
     let (states, rest) = rest.split_once(' ')?;
@@ -28,7 +35,8 @@ pub(crate) fn cell(alloc: Global, input: &str, answer: &mut Vec<u8>) -> Option<(
         &grid_of(alloc, &area, states, numbers)??,
         pos_of(p)?,
         answer,
-    )
+    );
+    Some(())
 }
 
 fn grid_of(alloc: Global, area: &WorldBox, states: &str, numbers: &str) -> Option<Option<Grid>> {
@@ -55,34 +63,43 @@ fn numbers_of(alloc: Global, text: &str) -> Option<Vec<u32>> {
     Some(numbers)
 }
 
-fn put_names(grid: &Grid, answer: &mut Vec<u8>) -> Option<()> {
+fn put_names(grid: &Grid, answer: &mut Answer) {
     for index in 0..grid.area().volume() {
-        put_name(grid, grid.area().position(index)?, answer)?;
-        put(answer, ";")?;
+        match grid.area().position(index) {
+            Some(p) => put_name(grid, p, answer),
+            None => answer.fail(),
+        }
+        answer.text(";");
     }
-    Some(())
 }
 
 /// Puts the name of a block, which has no entity.
-fn put_name(grid: &Grid, p: Pos, answer: &mut Vec<u8>) -> Option<()> {
+fn put_name(grid: &Grid, p: Pos, answer: &mut Answer) {
     if grid.entity(p).is_some() {
-        return None;
+        answer.fail();
+        return;
     }
     match grid.get(p) {
-        Some(state) => answer.extend_from_slice(state.name()).ok(),
-        None => put(answer, "none"),
+        Some(state) => answer.bytes(state.name()),
+        None => answer.text("none"),
     }
 }
 
 /// `entities BOX POSITION=WORD ..`: the positions with entities of a world of the box that has these, in index order, each
 /// with its word and `;` behind it; none where no world has them.
-pub(crate) fn entities(alloc: Global, input: &str, answer: &mut Vec<u8>) -> Option<()> {
+pub(crate) fn entities(alloc: Global, input: &str, answer: &mut Answer) -> Option<()> {
     let (word, rest) = input.split_once(' ')?;
     let area = area_of(word)?;
     let grid = stone_of(alloc, &area)?;
     match grid.with_entities(entities_of(alloc, rest)?) {
-        Some(grid) => put_entities(&grid, answer),
-        None => put(answer, "none"),
+        Some(grid) => {
+            put_entities(&grid, answer);
+            Some(())
+        }
+        None => {
+            answer.text("none");
+            Some(())
+        }
     }
 }
 
@@ -112,20 +129,23 @@ fn placed_of(alloc: Global, word: &str) -> Option<(Pos, Arc<Entity>)> {
     Some((pos_of(p)?, Arc::new(alloc, entity).ok()?))
 }
 
-fn put_entities(grid: &Grid, answer: &mut Vec<u8>) -> Option<()> {
+fn put_entities(grid: &Grid, answer: &mut Answer) {
     for index in 0..grid.area().volume() {
-        put_entity(grid, grid.area().position(index)?, answer)?;
+        match grid.area().position(index) {
+            Some(p) => put_entity(grid, p, answer),
+            None => answer.fail(),
+        }
     }
-    put(answer, "end")
+    answer.text("end")
 }
 
 /// Puts a position and its entity, where it has one.
-fn put_entity(grid: &Grid, p: Pos, answer: &mut Vec<u8>) -> Option<()> {
+fn put_entity(grid: &Grid, p: Pos, answer: &mut Answer) {
     let Some(entity) = grid.entity(p) else {
-        return Some(());
+        return;
     };
-    put_pos(&p, answer)?;
-    put(answer, "=")?;
-    answer.extend_from_slice(entity.before()).ok()?;
-    put(answer, ";")
+    put_pos(&p, answer);
+    answer.text("=");
+    answer.bytes(entity.before());
+    answer.text(";")
 }

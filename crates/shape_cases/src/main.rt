@@ -11,20 +11,20 @@ mod rows;
 mod turns;
 mod words;
 
-use case_lines::{Cases, run_cases};
+use case_lines::{Answer, Cases, run_cases};
 use std::alloc::Global;
 use std::io;
 
 struct ShapeCases;
 
 impl Cases for ShapeCases {
-    fn answer(&self, alloc: Global, kind: &str, input: &str, answer: &mut Vec<u8>) -> Option<()> {
+    fn answer(&self, alloc: Global, kind: &str, input: &str, answer: &mut Answer) -> Option<()> {
         of_boxes(alloc, kind, input, answer)
     }
 }
 
 /// Cases of boxes and worlds, and others.
-fn of_boxes(alloc: Global, kind: &str, input: &str, answer: &mut Vec<u8>) -> Option<()> {
+fn of_boxes(alloc: Global, kind: &str, input: &str, answer: &mut Answer) -> Option<()> {
     match kind {
         "box" => boxes::made(input, answer),
         "index" => boxes::index(input, answer),
@@ -39,7 +39,7 @@ fn of_boxes(alloc: Global, kind: &str, input: &str, answer: &mut Vec<u8>) -> Opt
 }
 
 /// Cases of regions, and others.
-fn of_regions(alloc: Global, kind: &str, input: &str, answer: &mut Vec<u8>) -> Option<()> {
+fn of_regions(alloc: Global, kind: &str, input: &str, answer: &mut Answer) -> Option<()> {
     match kind {
         "inside" => regions::inside(input, answer),
         "bounds" => regions::bounds_of(input, answer),
@@ -51,7 +51,7 @@ fn of_regions(alloc: Global, kind: &str, input: &str, answer: &mut Vec<u8>) -> O
 }
 
 /// Cases of turned positions and clipboards.
-fn of_turns(kind: &str, input: &str, answer: &mut Vec<u8>) -> Option<()> {
+fn of_turns(kind: &str, input: &str, answer: &mut Answer) -> Option<()> {
     match kind {
         "moves" => turns::moves(input, answer),
         "turn" => turns::turn(input, answer),

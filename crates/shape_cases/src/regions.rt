@@ -3,6 +3,7 @@
 //! `htube`.
 
 use crate::words::{area_of, pos_of, put, put_box};
+use case_lines::Answer;
 use edit_terms::{Kind, Region, Selection};
 use region_shapes::{bounds, contains};
 
@@ -61,18 +62,25 @@ fn tube_of(words: &str, hollow: bool) -> Option<Region> {
 }
 
 /// `inside POSITION REGION`: whether a position is of a region.
-pub(crate) fn inside(input: &str, answer: &mut Vec<u8>) -> Option<()> {
+pub(crate) fn inside(input: &str, answer: &mut Answer) -> Option<()> {
     let (p, rest) = input.split_once(' ')?;
     let is_inside = contains(&region_of(rest)?, &pos_of(p)?);
-    put(answer, if is_inside { "inside" } else { "outside" })
+    answer.text(if is_inside { "inside" } else { "outside" });
+    Some(())
 }
 
 /// `bounds BOX REGION`: the bounding box of a region, cut by a box; none where nothing is left.
-pub(crate) fn bounds_of(input: &str, answer: &mut Vec<u8>) -> Option<()> {
+pub(crate) fn bounds_of(input: &str, answer: &mut Answer) -> Option<()> {
     let (word, rest) = input.split_once(' ')?;
     let area = area_of(word)?;
     match bounds(&region_of(rest)?, &area) {
-        Some(bounds) => put_box(&bounds, answer),
-        None => put(answer, "none"),
+        Some(bounds) => {
+            put_box(&bounds, answer);
+            Some(())
+        }
+        None => {
+            answer.text("none");
+            Some(())
+        }
     }
 }

@@ -2,16 +2,17 @@
 
 use crate::regions::region_of;
 use crate::words::{area_of, put, put_pos};
-use case_lines::push_number;
+use case_lines::Answer;
 use edit_terms::{Pos, Region, WorldBox};
 use region_shapes::{Span, contains, rows};
 use std::alloc::Global;
 
 /// `count BOX REGION`: how many blocks of a box the spans of a region have.
-pub(crate) fn count(input: &str, answer: &mut Vec<u8>) -> Option<()> {
+pub(crate) fn count(input: &str, answer: &mut Answer) -> Option<()> {
     let (word, rest) = input.split_once(' ')?;
     let area = area_of(word)?;
-    push_number(answer, count_of(&region_of(rest)?, &area)).ok()
+    answer.number(count_of(&region_of(rest)?, &area));
+    Some(())
 }
 
 fn count_of(region: &Region, area: &WorldBox) -> u64 {
@@ -23,32 +24,35 @@ fn count_of(region: &Region, area: &WorldBox) -> u64 {
 }
 
 /// `rows BOX REGION`: the spans of a region in a box, each as its least block, `+` and its count, with `;` behind it.
-pub(crate) fn rows_of(input: &str, answer: &mut Vec<u8>) -> Option<()> {
+pub(crate) fn rows_of(input: &str, answer: &mut Answer) -> Option<()> {
     let (word, rest) = input.split_once(' ')?;
     let area = area_of(word)?;
     for span in rows(&region_of(rest)?, &area) {
-        put_span(&span, answer)?;
+        put_span(&span, answer);
     }
-    put(answer, "end")
+    answer.text("end");
+    Some(())
 }
 
-fn put_span(span: &Span, answer: &mut Vec<u8>) -> Option<()> {
-    put_pos(&span.least, answer)?;
-    put(answer, "+")?;
-    push_number(answer, span.count).ok()?;
-    put(answer, ";")
+fn put_span(span: &Span, answer: &mut Answer) {
+    put_pos(&span.least, answer);
+    answer.text("+");
+    answer.number(span.count);
+    answer.text(";")
 }
 
 /// `agree BOX REGION`: how many blocks of a box are of a region, where the spans have the same blocks in the same order.
-pub(crate) fn agree(alloc: Global, input: &str, answer: &mut Vec<u8>) -> Option<()> {
+pub(crate) fn agree(alloc: Global, input: &str, answer: &mut Answer) -> Option<()> {
     let (word, rest) = input.split_once(' ')?;
     let area = area_of(word)?;
     let region = region_of(rest)?;
     let told = told_of(alloc, &region, &area)?;
     if told.as_slice() != listed_of(alloc, &region, &area)?.as_slice() {
-        return put(answer, "another list");
+        answer.text("another list");
+        return Some(());
     }
-    push_number(answer, told.len()).ok()
+    answer.number(told.len());
+    Some(())
 }
 
 /// The indexes of the blocks that `contains` tells.

@@ -5,7 +5,7 @@ ghost use Rattle.std.specs.Prelude.{IfSome};
 ghost use Rattle.clipboard_transform.specs.Reach.{IsTurnable};
 
 use crate::words::{pos_of, put, put_pos};
-use case_lines::push_number;
+use case_lines::Answer;
 use clipboard_transform::{place, source, then_flip, then_turn};
 use edit_terms::{Direction, Pos, Transform};
 
@@ -41,7 +41,7 @@ fn turnable_of(word: &str) -> Option<Pos>
 
 /// `moves TRANSFORM POSITION`: where a transform sends a position, and from where it brings one there. Each undoes the
 /// other.
-pub(crate) fn moves(input: &str, answer: &mut Vec<u8>) -> Option<()> {
+pub(crate) fn moves(input: &str, answer: &mut Answer) -> Option<()> {
     let (t, p) = input.split_once(' ')?;
     let t = transform_of(t)?;
     let p = turnable_of(p)?;
@@ -50,58 +50,63 @@ pub(crate) fn moves(input: &str, answer: &mut Vec<u8>) -> Option<()> {
     if source(&t, sent) != p || place(&t, brought) != p {
         return None;
     }
-    put_pos(&sent, answer)?;
-    put(answer, " ")?;
-    put_pos(&brought, answer)
+    put_pos(&sent, answer);
+    answer.text(" ");
+    put_pos(&brought, answer);
+    Some(())
 }
 
 /// `turns TRANSFORM POSITION`: where a position is sent by a transform and behind it 0 to 5 quarter turns, done as one.
-pub(crate) fn turns(input: &str, answer: &mut Vec<u8>) -> Option<()> {
+pub(crate) fn turns(input: &str, answer: &mut Answer) -> Option<()> {
     let (t, p) = input.split_once(' ')?;
     let t = transform_of(t)?;
     let p = turnable_of(p)?;
     for quarters in 0..6 {
-        put_sent(&then_turn(t, quarters), p, answer)?;
+        put_sent(&then_turn(t, quarters), p, answer);
     }
-    put(answer, "end")
+    answer.text("end");
+    Some(())
 }
 
 /// `flips TRANSFORM POSITION`: where a position is sent by a transform and behind it a flip to north, south, east, west,
 /// up and down, done as one.
-pub(crate) fn flips(input: &str, answer: &mut Vec<u8>) -> Option<()> {
+pub(crate) fn flips(input: &str, answer: &mut Answer) -> Option<()> {
     let (t, p) = input.split_once(' ')?;
     let t = transform_of(t)?;
     let p = turnable_of(p)?;
     for word in "north south east west up down".split(' ') {
-        put_sent(&then_flip(t, direction_of(word)?), p, answer)?;
+        put_sent(&then_flip(t, direction_of(word)?), p, answer);
     }
-    put(answer, "end")
+    answer.text("end");
+    Some(())
 }
 
 /// Puts where a transform sends a position, and `;`.
-fn put_sent(t: &Transform, p: Pos, answer: &mut Vec<u8>) -> Option<()>
+fn put_sent(t: &Transform, p: Pos, answer: &mut Answer)
     requires { IsTurnable p }
 {
-    put_pos(&place(t, p), answer)?;
-    put(answer, ";")
+    put_pos(&place(t, p), answer);
+    answer.text(";")
 }
 
 /// `turn TRANSFORM QUARTERS`: a transform and behind it so many quarter turns as one.
-pub(crate) fn turn(input: &str, answer: &mut Vec<u8>) -> Option<()> {
+pub(crate) fn turn(input: &str, answer: &mut Answer) -> Option<()> {
     let (t, quarters) = input.split_once(' ')?;
-    put_transform(&then_turn(transform_of(t)?, quarters.parse().ok()?), answer)
+    put_transform(&then_turn(transform_of(t)?, quarters.parse().ok()?), answer);
+    Some(())
 }
 
 /// `flip TRANSFORM DIRECTION`: a transform and behind it a flip as one.
-pub(crate) fn flip(input: &str, answer: &mut Vec<u8>) -> Option<()> {
+pub(crate) fn flip(input: &str, answer: &mut Answer) -> Option<()> {
     let (t, to) = input.split_once(' ')?;
-    put_transform(&then_flip(transform_of(t)?, direction_of(to)?), answer)
+    put_transform(&then_flip(transform_of(t)?, direction_of(to)?), answer);
+    Some(())
 }
 
-fn put_transform(t: &Transform, answer: &mut Vec<u8>) -> Option<()> {
-    put(answer, if t.flip_x { "x" } else { "" })?;
-    put(answer, if t.flip_y { "y" } else { "" })?;
-    push_number(answer, t.turns).ok()
+fn put_transform(t: &Transform, answer: &mut Answer) {
+    answer.text(if t.flip_x { "x" } else { "" });
+    answer.text(if t.flip_y { "y" } else { "" });
+    answer.number(t.turns)
 }
 
 fn direction_of(word: &str) -> Option<Direction> {

@@ -1,11 +1,11 @@
 //! Positions and boxes as words.
 
-use case_lines::{push_number, push_text};
+use case_lines::Answer;
 use edit_terms::{Pos, WorldBox};
 
 /// Puts a text behind what is there.
-pub(crate) fn put(answer: &mut Vec<u8>, text: &str) -> Option<()> {
-    push_text(answer, text).ok()
+pub(crate) fn put(answer: &mut Answer, text: &str) {
+    answer.text(text)
 }
 
 /// The position of a word `X,Y,Z`.
@@ -20,12 +20,12 @@ pub(crate) fn pos_of(word: &str) -> Option<Pos> {
 }
 
 /// Puts a position.
-pub(crate) fn put_pos(p: &Pos, answer: &mut Vec<u8>) -> Option<()> {
-    push_number(answer, p.x).ok()?;
-    put(answer, ",")?;
-    push_number(answer, p.y).ok()?;
-    put(answer, ",")?;
-    push_number(answer, p.z).ok()
+pub(crate) fn put_pos(p: &Pos, answer: &mut Answer) {
+    answer.number(p.x);
+    answer.text(",");
+    answer.number(p.y);
+    answer.text(",");
+    answer.number(p.z)
 }
 
 /// The box of a word that is one, if such a box may be.
@@ -47,20 +47,20 @@ pub(crate) fn area_of(word: &str) -> Option<WorldBox> {
 }
 
 /// Puts a box.
-pub(crate) fn put_box(area: &WorldBox, answer: &mut Vec<u8>) -> Option<()> {
-    push_number(answer, area.width()).ok()?;
-    put(answer, ",")?;
-    push_number(answer, area.height()).ok()?;
-    put(answer, ",")?;
-    push_number(answer, area.length()).ok()?;
-    put(answer, "@")?;
+pub(crate) fn put_box(area: &WorldBox, answer: &mut Answer) {
+    answer.number(area.width());
+    answer.text(",");
+    answer.number(area.height());
+    answer.text(",");
+    answer.number(area.length());
+    answer.text("@");
     put_pos(&area.least(), answer)
 }
 
 /// Puts a number, or `none`.
-pub(crate) fn put_maybe(number: Option<u32>, answer: &mut Vec<u8>) -> Option<()> {
+pub(crate) fn put_maybe(number: Option<u32>, answer: &mut Answer) {
     match number {
-        Some(number) => push_number(answer, number).ok(),
-        None => put(answer, "none"),
+        Some(number) => answer.number(number),
+        None => answer.text("none"),
     }
 }

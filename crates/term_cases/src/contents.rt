@@ -3,12 +3,13 @@
 use crate::bytes::put;
 use crate::equal::put_same;
 use crate::states::{put_state, state_of};
+use case_lines::Answer;
 use edit_terms::{Content, Entity};
 use std::alloc::Global;
 use std::sync::Arc;
 
 /// `contents TEXT ENTITY TEXT ENTITY`: whether two contents are equal.
-pub(crate) fn contents(alloc: Global, input: &str, answer: &mut Vec<u8>) -> Option<()> {
+pub(crate) fn contents(alloc: Global, input: &str, answer: &mut Answer) -> Option<()> {
     let (one, rest) = input.split_once(' ')?;
     let (entity, rest) = rest.split_once(' ')?;
     let one = content_of(alloc, one, entity)?;
@@ -18,18 +19,25 @@ pub(crate) fn contents(alloc: Global, input: &str, answer: &mut Vec<u8>) -> Opti
     if is_same != (other == one) || is_same != (one.copy(alloc).ok()? == other) {
         return None;
     }
-    put_same(is_same, answer)
+    put_same(is_same, answer);
+    Some(())
 }
 
 /// `content TEXT ENTITY`: what the copy of the copy of a content is.
-pub(crate) fn content(alloc: Global, input: &str, answer: &mut Vec<u8>) -> Option<()> {
+pub(crate) fn content(alloc: Global, input: &str, answer: &mut Answer) -> Option<()> {
     let (text, entity) = input.split_once(' ')?;
     let copied = content_of(alloc, text, entity)?.copy(alloc).ok()?;
     let copied = copied.copy(alloc).ok()?;
-    put_state(alloc, &copied.state, answer)?;
+    put_state(alloc, &copied.state, answer);
     match &copied.entity {
-        Some(entity) => put_entity(entity, answer),
-        None => put(answer, " -"),
+        Some(entity) => {
+            put_entity(entity, answer);
+            Some(())
+        }
+        None => {
+            answer.text(" -");
+            Some(())
+        }
     }
 }
 
@@ -48,9 +56,9 @@ fn entity_of(alloc: Global, before: &str, after: &str) -> Option<Arc<Entity>> {
     Arc::new(alloc, Entity::new(before, after)).ok()
 }
 
-fn put_entity(entity: &Entity, answer: &mut Vec<u8>) -> Option<()> {
-    put(answer, " ")?;
-    answer.extend_from_slice(entity.before()).ok()?;
-    put(answer, ",")?;
-    answer.extend_from_slice(entity.after()).ok()
+fn put_entity(entity: &Entity, answer: &mut Answer) {
+    answer.text(" ");
+    answer.bytes(entity.before());
+    answer.text(",");
+    answer.bytes(entity.after())
 }

@@ -1,10 +1,10 @@
 //! Random words.
 
-use case_lines::push_number;
+use case_lines::Answer;
 use edit_terms::random_word;
 
 /// `word SEED STREAM PLACE`: the word at a place of a seed's stream.
-pub(crate) fn word(input: &str, answer: &mut Vec<u8>) -> Option<()> {
+pub(crate) fn word(input: &str, answer: &mut Answer) -> Option<()> {
     let (seed, rest) = input.split_once(' ')?;
     let (stream, place) = rest.split_once(' ')?;
     let word = word_at(
@@ -12,7 +12,8 @@ pub(crate) fn word(input: &str, answer: &mut Vec<u8>) -> Option<()> {
         stream.parse().ok()?,
         place.parse().ok()?,
     )?;
-    push_number(answer, word).ok()
+    answer.number(word);
+    Some(())
 }
 
 /// The word at a place. None for a place of no position.

@@ -20,20 +20,20 @@ mod scripts;
 mod states;
 mod turns;
 
-use case_lines::{Cases, run_cases};
+use case_lines::{Answer, Cases, run_cases};
 use std::alloc::Global;
 use std::io;
 
 struct TermCases;
 
 impl Cases for TermCases {
-    fn answer(&self, alloc: Global, kind: &str, input: &str, answer: &mut Vec<u8>) -> Option<()> {
+    fn answer(&self, alloc: Global, kind: &str, input: &str, answer: &mut Answer) -> Option<()> {
         of_states(alloc, kind, input, answer)
     }
 }
 
 /// Cases of states and what they are made of, and others.
-fn of_states(alloc: Global, kind: &str, input: &str, answer: &mut Vec<u8>) -> Option<()> {
+fn of_states(alloc: Global, kind: &str, input: &str, answer: &mut Answer) -> Option<()> {
     match kind {
         "state" => states::state(alloc, input, answer),
         "length" => states::length(alloc, input, answer),
@@ -52,7 +52,7 @@ fn of_states(alloc: Global, kind: &str, input: &str, answer: &mut Vec<u8>) -> Op
 }
 
 /// Cases of masks and patterns, and others.
-fn of_terms(alloc: Global, kind: &str, input: &str, answer: &mut Vec<u8>) -> Option<()> {
+fn of_terms(alloc: Global, kind: &str, input: &str, answer: &mut Answer) -> Option<()> {
     match kind {
         "mask" => masks::mask(alloc, input, answer),
         "mask_copy" => masks::copied(alloc, input, answer),
@@ -65,7 +65,7 @@ fn of_terms(alloc: Global, kind: &str, input: &str, answer: &mut Vec<u8>) -> Opt
 }
 
 /// Cases of scripts, and others.
-fn of_scripts(alloc: Global, kind: &str, input: &str, answer: &mut Vec<u8>) -> Option<()> {
+fn of_scripts(alloc: Global, kind: &str, input: &str, answer: &mut Answer) -> Option<()> {
     match kind {
         "script" => scripts::script(alloc, input, answer),
         "file" => scripts::file(alloc, input, answer),
@@ -76,12 +76,15 @@ fn of_scripts(alloc: Global, kind: &str, input: &str, answer: &mut Vec<u8>) -> O
 }
 
 /// Cases of what has few of them.
-fn of_others(alloc: Global, kind: &str, input: &str, answer: &mut Vec<u8>) -> Option<()> {
+fn of_others(alloc: Global, kind: &str, input: &str, answer: &mut Answer) -> Option<()> {
     match kind {
         "word" => draws::word(input, answer),
         "pieces" => pieces::pieces(input, answer),
         "outside" => pieces::outside(input, answer),
-        "behind" => pieces::behind(alloc, input, answer),
+        "behind" => {
+            pieces::behind(alloc, input, answer);
+            Some(())
+        }
         "fault" => faults::fault(alloc, input, answer),
         "fault_at" => faults::fault_at(alloc, input, answer),
         "names" => equal::names(alloc, input, answer),

@@ -5,30 +5,36 @@ use crate::faults::put_term_fault;
 use crate::properties::put_properties;
 use crate::states::put_state;
 use block_state::TermFault;
-use case_lines::push_number;
+use case_lines::Answer;
 use edit_terms::{Entry, Pattern, Value};
 use pattern_syntax::read_pattern;
 use std::alloc::Global;
 
 /// `pattern TEXT`: the pattern of a text, each entry with its weight and each word in full, or the fault.
-pub(crate) fn pattern(alloc: Global, input: &str, answer: &mut Vec<u8>) -> Option<()> {
+pub(crate) fn pattern(alloc: Global, input: &str, answer: &mut Answer) -> Option<()> {
     match read(alloc, &bytes_of(alloc, input)?)? {
         Ok(pattern) => put_pattern(alloc, &pattern, answer),
-        Err(fault) => put_term_fault(alloc, fault, answer),
+        Err(fault) => {
+            put_term_fault(alloc, fault, answer);
+            Some(())
+        }
     }
 }
 
 /// `pattern_copy TEXT`: the copy of the copy of a text's pattern.
-pub(crate) fn copied(alloc: Global, input: &str, answer: &mut Vec<u8>) -> Option<()> {
+pub(crate) fn copied(alloc: Global, input: &str, answer: &mut Answer) -> Option<()> {
     let pattern = pattern_of(alloc, input)?.copy(alloc).ok()?;
     put_pattern(alloc, &pattern.copy(alloc).ok()?, answer)
 }
 
 /// `entries TEXT`: how many entries the pattern of a text has, and the last, or the fault.
-pub(crate) fn entries(alloc: Global, input: &str, answer: &mut Vec<u8>) -> Option<()> {
+pub(crate) fn entries(alloc: Global, input: &str, answer: &mut Answer) -> Option<()> {
     match read(alloc, &bytes_of(alloc, input)?)? {
         Ok(pattern) => put_last(alloc, pattern.entries.as_slice(), answer),
-        Err(fault) => put_term_fault(alloc, fault, answer),
+        Err(fault) => {
+            put_term_fault(alloc, fault, answer);
+            Some(())
+        }
     }
 }
 
@@ -45,47 +51,67 @@ fn read(alloc: Global, text: &[u8]) -> Option<Result<Pattern, TermFault>> {
     Some(read_pattern(alloc, text))
 }
 
-fn put_last(alloc: Global, entries: &[Entry], answer: &mut Vec<u8>) -> Option<()> {
-    push_number(answer, entries.len()).ok()?;
-    put(answer, " to ")?;
-    put_entry(alloc, entries.last()?, answer)
+fn put_last(alloc: Global, entries: &[Entry], answer: &mut Answer) -> Option<()> {
+    answer.number(entries.len());
+    answer.text(" to ");
+    match entries.last() {
+        Some(entry) => put_entry(alloc, entry, answer),
+        None => {
+            answer.fail();
+            Some(())
+        }
+    }
 }
 
 /// Puts a pattern's entries with commas between.
-pub(crate) fn put_pattern(alloc: Global, pattern: &Pattern, answer: &mut Vec<u8>) -> Option<()> {
-    let (first, rest) = pattern.entries.as_slice().split_first()?;
+pub(crate) fn put_pattern(alloc: Global, pattern: &Pattern, answer: &mut Answer) -> Option<()> {
+    let Some((first, rest)) = pattern.entries.as_slice().split_first() else {
+        answer.fail();
+        return Some(());
+    };
     put_entry(alloc, first, answer)?;
     for entry in rest {
-        put(answer, ",")?;
+        answer.text(",");
         put_entry(alloc, entry, answer)?;
     }
     Some(())
 }
 
-fn put_entry(alloc: Global, entry: &Entry, answer: &mut Vec<u8>) -> Option<()> {
-    push_number(answer, entry.weight).ok()?;
-    put(answer, "%")?;
+fn put_entry(alloc: Global, entry: &Entry, answer: &mut Answer) -> Option<()> {
+    answer.number(entry.weight);
+    answer.text("%");
     put_value(alloc, &entry.value, answer)
 }
 
-fn put_value(alloc: Global, value: &Value, answer: &mut Vec<u8>) -> Option<()> {
+fn put_value(alloc: Global, value: &Value, answer: &mut Answer) -> Option<()> {
     match value {
-        Value::Fixed(state) => put_state(alloc, state, answer),
-        Value::Rename(name) => put_edit(name.as_slice(), answer),
+        Value::Fixed(state) => {
+            put_state(alloc, state, answer);
+            Some(())
+        }
+        Value::Rename(name) => {
+            put_edit(name.as_slice(), answer);
+            Some(())
+        }
         Value::Put(properties) => {
-            put(answer, "^")?;
-            put_properties(properties, answer)
+            answer.text("^");
+            put_properties(properties, answer);
+            Some(())
         }
         Value::RenamePut(state) => {
-            put_edit(state.name(), answer)?;
-            put_properties(state.properties(), answer)
+            put_edit(state.name(), answer);
+            put_properties(state.properties(), answer);
+            Some(())
         }
-        Value::Clipboard => put(answer, "#clipboard"),
+        Value::Clipboard => {
+            answer.text("#clipboard");
+            Some(())
+        }
     }
 }
 
 /// Puts `^` and a name.
-fn put_edit(name: &[u8], answer: &mut Vec<u8>) -> Option<()> {
-    put(answer, "^")?;
-    answer.extend_from_slice(name).ok()
+fn put_edit(name: &[u8], answer: &mut Answer) {
+    answer.text("^");
+    answer.bytes(name)
 }

@@ -4,13 +4,13 @@ use crate::bytes::put;
 use crate::faults::put_state_fault;
 use crate::properties::put_properties;
 use block_state::read_properties;
-use case_lines::push_number;
+use case_lines::Answer;
 use std::alloc::Global;
 use term_text::{Piece, Pieces, first_outside};
 
 /// `pieces SEPARATOR AT TEXT`: the pieces of a text that begins at this place of the whole, each with its place, and a
 /// `;` behind it.
-pub(crate) fn pieces(input: &str, answer: &mut Vec<u8>) -> Option<()> {
+pub(crate) fn pieces(input: &str, answer: &mut Answer) -> Option<()> {
     let (separator, rest) = input.split_once(' ')?;
     let (at, text) = rest.split_once(' ')?;
     put_pieces(
@@ -18,36 +18,44 @@ pub(crate) fn pieces(input: &str, answer: &mut Vec<u8>) -> Option<()> {
         at.parse().ok()?,
         separator_of(separator)?,
         answer,
-    )
+    );
+    Some(())
 }
 
-fn put_pieces(text: &[u8], at: u32, separator: u8, answer: &mut Vec<u8>) -> Option<()> {
+fn put_pieces(text: &[u8], at: u32, separator: u8, answer: &mut Answer) {
     if text.len() > 1000 || at > 1000 {
-        return None;
+        answer.fail();
+        return;
     }
     let mut pieces = Pieces::new(text, at, separator);
     for _ in 0..1000 {
         let Some(piece) = pieces.next() else {
-            return Some(());
+            return;
         };
-        put_piece(&piece, answer)?;
+        put_piece(&piece, answer);
     }
-    None
+    answer.fail()
 }
 
-fn put_piece(piece: &Piece, answer: &mut Vec<u8>) -> Option<()> {
-    push_number(answer, piece.at).ok()?;
-    put(answer, " ")?;
-    answer.extend_from_slice(piece.bytes).ok()?;
-    put(answer, ";")
+fn put_piece(piece: &Piece, answer: &mut Answer) {
+    answer.number(piece.at);
+    answer.text(" ");
+    answer.bytes(piece.bytes);
+    answer.text(";")
 }
 
 /// `outside SEPARATOR TEXT`: the place of the first separator outside brackets.
-pub(crate) fn outside(input: &str, answer: &mut Vec<u8>) -> Option<()> {
+pub(crate) fn outside(input: &str, answer: &mut Answer) -> Option<()> {
     let (separator, text) = input.split_once(' ')?;
     match first_outside(text.as_bytes(), separator_of(separator)?) {
-        Some(at) => push_number(answer, at).ok(),
-        None => put(answer, "none"),
+        Some(at) => {
+            answer.number(at);
+            Some(())
+        }
+        None => {
+            answer.text("none");
+            Some(())
+        }
     }
 }
 
@@ -61,7 +69,7 @@ fn separator_of(word: &str) -> Option<u8> {
 }
 
 /// `behind TEXT`: the properties of a text behind an opening bracket, or the fault.
-pub(crate) fn behind(alloc: Global, input: &str, answer: &mut Vec<u8>) -> Option<()> {
+pub(crate) fn behind(alloc: Global, input: &str, answer: &mut Answer) {
     match read_properties(alloc, input.as_bytes()) {
         Ok(properties) => put_properties(&properties, answer),
         Err(fault) => put_state_fault(alloc, fault, answer),

@@ -3,16 +3,18 @@
 use crate::bytes::put;
 use crate::names::name_of;
 use crate::states::state_of;
+use case_lines::Answer;
 use edit_terms::{Name, Properties};
 use std::alloc::Global;
 
 /// `properties PAIRS`: whether pairs `KEY=VALUE`, with blanks between, are properties. They and their copy, whose keys
 /// are looked up, are put.
-pub(crate) fn properties(alloc: Global, input: &str, answer: &mut Vec<u8>) -> Option<()> {
+pub(crate) fn properties(alloc: Global, input: &str, answer: &mut Answer) -> Option<()> {
     let Some(properties) = Properties::from_pairs(pairs_of(alloc, input)?) else {
-        return put(answer, "none");
+        answer.text("none");
+        return Some(());
     };
-    put_properties(&properties, answer)?;
+    put_properties(&properties, answer);
     put_values(&properties.copy(alloc).ok()?, answer)
 }
 
@@ -35,47 +37,62 @@ fn pair_of(alloc: Global, word: &str) -> Option<(Name, Name)> {
 }
 
 /// Puts properties in brackets.
-pub(crate) fn put_properties(properties: &Properties, answer: &mut Vec<u8>) -> Option<()> {
-    put(answer, "[")?;
+pub(crate) fn put_properties(properties: &Properties, answer: &mut Answer) {
+    answer.text("[");
     for (place, pair) in properties.as_slice().iter().enumerate() {
-        put(answer, if place == 0 { "" } else { "," })?;
-        put_pair(pair, answer)?;
+        answer.text(if place == 0 { "" } else { "," });
+        put_pair(pair, answer);
     }
-    put(answer, "]")
+    answer.text("]")
 }
 
-fn put_pair(pair: &(Name, Name), answer: &mut Vec<u8>) -> Option<()> {
-    answer.extend_from_slice(pair.0.as_slice()).ok()?;
-    put(answer, "=")?;
-    answer.extend_from_slice(pair.1.as_slice()).ok()
+fn put_pair(pair: &(Name, Name), answer: &mut Answer) {
+    answer.bytes(pair.0.as_slice());
+    answer.text("=");
+    answer.bytes(pair.1.as_slice())
 }
 
 /// Puts the value of each key, with a blank before it.
-fn put_values(properties: &Properties, answer: &mut Vec<u8>) -> Option<()> {
+fn put_values(properties: &Properties, answer: &mut Answer) -> Option<()> {
     for pair in properties.as_slice() {
-        put(answer, " ")?;
+        answer.text(" ");
         put_value(properties, pair.0.as_slice(), answer)?;
     }
     Some(())
 }
 
-fn put_value(properties: &Properties, key: &[u8], answer: &mut Vec<u8>) -> Option<()> {
-    answer.extend_from_slice(properties.get(key)?).ok()
+fn put_value(properties: &Properties, key: &[u8], answer: &mut Answer) -> Option<()> {
+    match properties.get(key) {
+        Some(value) => {
+            answer.bytes(value);
+            Some(())
+        }
+        None => {
+            answer.fail();
+            Some(())
+        }
+    }
 }
 
 /// `value TEXT KEY`: the value of a key of a state.
-pub(crate) fn value(alloc: Global, input: &str, answer: &mut Vec<u8>) -> Option<()> {
+pub(crate) fn value(alloc: Global, input: &str, answer: &mut Answer) -> Option<()> {
     let (text, key) = input.rsplit_once(' ')?;
     let state = state_of(alloc, text)?;
     match state.properties().get(key.as_bytes()) {
-        Some(value) => answer.extend_from_slice(value).ok(),
-        None => put(answer, "none"),
+        Some(value) => {
+            answer.bytes(value);
+            Some(())
+        }
+        None => {
+            answer.text("none");
+            Some(())
+        }
     }
 }
 
 /// `many COUNT KEY VALUE`: whether so many pairs, with keys and values of these lengths, are properties. A key has at
 /// least two bytes.
-pub(crate) fn many(alloc: Global, input: &str, answer: &mut Vec<u8>) -> Option<()> {
+pub(crate) fn many(alloc: Global, input: &str, answer: &mut Answer) -> Option<()> {
     let (count, lengths) = input.split_once(' ')?;
     let (key, value) = lengths.split_once(' ')?;
     let pairs = many_pairs(
@@ -85,7 +102,8 @@ pub(crate) fn many(alloc: Global, input: &str, answer: &mut Vec<u8>) -> Option<(
         value.parse().ok()?,
     )?;
     let made = Properties::from_pairs(pairs);
-    put(answer, if made.is_some() { "made" } else { "none" })
+    answer.text(if made.is_some() { "made" } else { "none" });
+    Some(())
 }
 
 fn many_pairs(alloc: Global, count: u8, key: u32, value: u32) -> Option<Vec<(Name, Name)>> {

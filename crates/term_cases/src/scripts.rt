@@ -3,34 +3,43 @@
 use crate::bytes::{MOST_BYTES, bytes_of, put};
 use crate::commands::put_command;
 use crate::faults::{put_line_fault, put_script_fault};
-use case_lines::{push_number, script_of};
+use case_lines::{Answer, script_of};
 use command_syntax::{ScriptFault, read_script};
 use edit_terms::{Line, Script};
 use std::alloc::Global;
 
 /// `script LINES`: the player and the numbered commands of a script, or its fault. The lines stand with ` | ` between.
-pub(crate) fn script(alloc: Global, input: &str, answer: &mut Vec<u8>) -> Option<()> {
+pub(crate) fn script(alloc: Global, input: &str, answer: &mut Answer) -> Option<()> {
     put_read(alloc, &lines_of(alloc, input)?, answer)
 }
 
 /// `file TEXT`: the same of a text.
-pub(crate) fn file(alloc: Global, input: &str, answer: &mut Vec<u8>) -> Option<()> {
+pub(crate) fn file(alloc: Global, input: &str, answer: &mut Answer) -> Option<()> {
     put_read(alloc, &bytes_of(alloc, input)?, answer)
 }
 
 /// `count LINES`: how many commands a script has, and the number of the last one's line, or the fault.
-pub(crate) fn count(alloc: Global, input: &str, answer: &mut Vec<u8>) -> Option<()> {
+pub(crate) fn count(alloc: Global, input: &str, answer: &mut Answer) -> Option<()> {
     match read(alloc, &lines_of(alloc, input)?)? {
-        Ok(script) => put_count(script.lines.as_slice(), answer),
-        Err(fault) => put_script_fault(alloc, &fault, answer),
+        Ok(script) => {
+            put_count(script.lines.as_slice(), answer);
+            Some(())
+        }
+        Err(fault) => {
+            put_script_fault(alloc, &fault, answer);
+            Some(())
+        }
     }
 }
 
 /// `line LINE`: the command of a line, or its fault.
-pub(crate) fn line(alloc: Global, input: &str, answer: &mut Vec<u8>) -> Option<()> {
+pub(crate) fn line(alloc: Global, input: &str, answer: &mut Answer) -> Option<()> {
     match read(alloc, &script_of_line(alloc, input)?)? {
         Ok(script) => put_only(alloc, script.lines.as_slice(), answer),
-        Err(ScriptFault::Line { line: 2, fault }) => put_line_fault(alloc, &fault, answer),
+        Err(ScriptFault::Line { line: 2, fault }) => {
+            put_line_fault(alloc, &fault, answer);
+            Some(())
+        }
         Err(_) => None,
     }
 }
@@ -55,38 +64,54 @@ fn read(alloc: Global, text: &[u8]) -> Option<Result<Script, ScriptFault>> {
     Some(read_script(alloc, text))
 }
 
-fn put_read(alloc: Global, text: &[u8], answer: &mut Vec<u8>) -> Option<()> {
-    match read(alloc, text)? {
-        Ok(script) => put_script(alloc, &script, answer),
-        Err(fault) => put_script_fault(alloc, &fault, answer),
+fn put_read(alloc: Global, text: &[u8], answer: &mut Answer) -> Option<()> {
+    match read(alloc, text) {
+        Some(Ok(script)) => put_script(alloc, &script, answer),
+        Some(Err(fault)) => {
+            put_script_fault(alloc, &fault, answer);
+            Some(())
+        }
+        None => {
+            answer.fail();
+            Some(())
+        }
     }
 }
 
-fn put_script(alloc: Global, script: &Script, answer: &mut Vec<u8>) -> Option<()> {
-    answer.extend_from_slice(script.player.as_slice()).ok()?;
+fn put_script(alloc: Global, script: &Script, answer: &mut Answer) -> Option<()> {
+    answer.bytes(script.player.as_slice());
     for line in script.lines.as_slice() {
         put_line(alloc, line, answer)?;
     }
     Some(())
 }
 
-fn put_line(alloc: Global, line: &Line, answer: &mut Vec<u8>) -> Option<()> {
-    put(answer, " | ")?;
-    push_number(answer, line.number).ok()?;
-    put(answer, " ")?;
+fn put_line(alloc: Global, line: &Line, answer: &mut Answer) -> Option<()> {
+    answer.text(" | ");
+    answer.number(line.number);
+    answer.text(" ");
     put_command(alloc, &line.command, answer)
 }
 
-fn put_only(alloc: Global, lines: &[Line], answer: &mut Vec<u8>) -> Option<()> {
+fn put_only(alloc: Global, lines: &[Line], answer: &mut Answer) -> Option<()> {
     match lines {
-        [] => put(answer, "skipped"),
+        [] => {
+            answer.text("skipped");
+            Some(())
+        }
         [line] => put_command(alloc, &line.command, answer),
-        _ => None,
+        _ => {
+            answer.fail();
+            Some(())
+        }
     }
 }
 
-fn put_count(lines: &[Line], answer: &mut Vec<u8>) -> Option<()> {
-    push_number(answer, lines.len()).ok()?;
-    put(answer, " to ")?;
-    push_number(answer, lines.last()?.number).ok()
+fn put_count(lines: &[Line], answer: &mut Answer) {
+    answer.number(lines.len());
+    answer.text(" to ");
+    match lines.last() {
+        Some(line) => answer.number(line.number),
+        None => answer.fail(),
+    }
 }

@@ -1,17 +1,17 @@
 //! The blocks of a world as a text.
 
 use crate::states::push_state;
-use case_lines::{push_number, push_text};
+use case_lines::Answer;
 use edit_terms::{Entity, Grid, Pos};
 use std::alloc::Global;
 
 /// Appends the blocks of a world in index order, as runs of equal ones.
-pub(crate) fn push_blocks(alloc: Global, answer: &mut Vec<u8>, world: &Grid) -> Option<()> {
+pub(crate) fn push_blocks(alloc: Global, answer: &mut Answer, world: &Grid) -> Option<()> {
     let mut first = 0;
     for index in 0..world.area().volume() {
-        if !is_same(world, first, index)? {
+        if is_same(world, first, index) == Some(false) {
             push_run(alloc, answer, world, first, index)?;
-            push_text(answer, " ").ok()?;
+            answer.text(" ");
             first = index;
         }
     }
@@ -41,30 +41,33 @@ fn is_same_entity(one: Option<&Entity>, other: Option<&Entity>) -> bool {
 }
 
 /// Appends the run of blocks from one index to another.
-fn push_run(alloc: Global, answer: &mut Vec<u8>, world: &Grid, first: u32, end: u32) -> Option<()> {
-    push_block(alloc, answer, world, world.area().position(first)?)?;
+fn push_run(alloc: Global, answer: &mut Answer, world: &Grid, first: u32, end: u32) -> Option<()> {
+    push_block(alloc, answer, world, world.area().position(first)?);
     let count = end.saturating_sub(first);
     if count == 1 {
         return Some(());
     }
-    push_text(answer, "*").ok()?;
-    push_number(answer, count).ok()
+    answer.text("*");
+    answer.number(count);
+    Some(())
 }
 
 /// Appends the block at a position.
-pub(crate) fn push_block(alloc: Global, answer: &mut Vec<u8>, world: &Grid, p: Pos) -> Option<()> {
-    push_state(alloc, answer, world.get(p)?)?;
-    match world.entity(p) {
-        None => Some(()),
-        Some(entity) => push_entity(answer, entity),
+pub(crate) fn push_block(alloc: Global, answer: &mut Answer, world: &Grid, p: Pos) {
+    match world.get(p) {
+        Some(state) => push_state(alloc, answer, state),
+        None => answer.fail(),
+    }
+    if let Some(entity) = world.entity(p) {
+        push_entity(answer, entity);
     }
 }
 
 /// Appends an entity's tags.
-fn push_entity(answer: &mut Vec<u8>, entity: &Entity) -> Option<()> {
-    push_text(answer, "{").ok()?;
-    answer.extend_from_slice(entity.before()).ok()?;
-    push_text(answer, "/").ok()?;
-    answer.extend_from_slice(entity.after()).ok()?;
-    push_text(answer, "}").ok()
+fn push_entity(answer: &mut Answer, entity: &Entity) {
+    answer.text("{");
+    answer.bytes(entity.before());
+    answer.text("/");
+    answer.bytes(entity.after());
+    answer.text("}")
 }

@@ -2,11 +2,12 @@
 
 use crate::outcomes::push_run;
 use crate::workloads::workload;
+use case_lines::Answer;
 use edit_terms::Script;
 use std::alloc::Global;
 
 /// `WORLD; SCRIPT`: the replies, and the blocks that are left.
-pub(crate) fn answer(alloc: Global, input: &str, answer: &mut Vec<u8>) -> Option<()> {
+pub(crate) fn answer(alloc: Global, input: &str, answer: &mut Answer) -> Option<()> {
     let (world, script) = input.split_once("; ")?;
     let case = workload(alloc, world, script)?;
     let order = whole_order(alloc, case.scripts.as_slice())?;

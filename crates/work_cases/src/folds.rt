@@ -2,10 +2,11 @@
 
 use crate::outcomes::{order_of, push_run};
 use crate::workloads::workload;
+use case_lines::Answer;
 use std::alloc::Global;
 
 /// `WORLD; ORDER; SCRIPTS`: the replies, and the blocks that are left.
-pub(crate) fn answer(alloc: Global, input: &str, answer: &mut Vec<u8>) -> Option<()> {
+pub(crate) fn answer(alloc: Global, input: &str, answer: &mut Answer) -> Option<()> {
     let (world, rest) = input.split_once("; ")?;
     let (order, scripts) = rest.split_once("; ")?;
     let case = workload(alloc, world, scripts)?;

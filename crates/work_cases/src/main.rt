@@ -48,14 +48,14 @@ mod transforms;
 mod workloads;
 mod worlds;
 
-use case_lines::{Cases, run_cases};
+use case_lines::{Answer, Cases, run_cases};
 use std::alloc::Global;
 use std::io;
 
 struct WorkCases;
 
 impl Cases for WorkCases {
-    fn answer(&self, alloc: Global, kind: &str, input: &str, answer: &mut Vec<u8>) -> Option<()> {
+    fn answer(&self, alloc: Global, kind: &str, input: &str, answer: &mut Answer) -> Option<()> {
         match kind {
             "session" => sessions::answer_steps(alloc, input, answer),
             "new" => sessions::answer_new(alloc, input, answer),
@@ -70,7 +70,7 @@ impl Cases for WorkCases {
 }
 
 /// The answers of runs, and of what needs no script.
-fn answer_run(alloc: Global, kind: &str, input: &str, answer: &mut Vec<u8>) -> Option<()> {
+fn answer_run(alloc: Global, kind: &str, input: &str, answer: &mut Answer) -> Option<()> {
     match kind {
         "limits" => workloads::answer_limits(alloc, input, answer),
         "edit" => edits::answer(alloc, input, answer),

@@ -5,7 +5,7 @@ ghost use Rattle.run_terms.specs.Workload.{workload_of};
 
 use crate::blocks::push_blocks;
 use crate::replies::push_replies;
-use case_lines::{push_number, push_text};
+use case_lines::Answer;
 use edit_terms::{Case, Outcome};
 use serial_model::{PlainError, plain_run};
 use std::alloc::Global;
@@ -20,28 +20,27 @@ pub(crate) fn order_of(alloc: Global, text: &str) -> Option<Vec<u32>> {
 }
 
 /// Appends what a run in an order leaves, or where the order is illegal.
-pub(crate) fn push_run(
-    alloc: Global,
-    answer: &mut Vec<u8>,
-    case: &Case,
-    order: &[u32],
-) -> Option<()>
+pub(crate) fn push_run(alloc: Global, answer: &mut Answer, case: &Case, order: &[u32]) -> Option<()>
     requires { IsWithinLimits (workload_of case.now) }
 {
     match plain_run(alloc, case, order) {
         Ok(outcome) => push_outcome(alloc, answer, &outcome),
         Err(PlainError::Illegal { at }) => {
-            push_text(answer, "illegal at ").ok()?;
-            push_number(answer, at).ok()
+            answer.text("illegal at ");
+            answer.number(at);
+            Some(())
         }
-        Err(PlainError::Memory) => None,
+        Err(PlainError::Memory) => {
+            answer.fail();
+            Some(())
+        }
     }
 }
 
 /// Appends the replies and the blocks that are left.
-fn push_outcome(alloc: Global, answer: &mut Vec<u8>, outcome: &Outcome) -> Option<()> {
-    push_replies(answer, outcome.replies.as_slice())?;
-    push_text(answer, "; ").ok()?;
+fn push_outcome(alloc: Global, answer: &mut Answer, outcome: &Outcome) -> Option<()> {
+    push_replies(answer, outcome.replies.as_slice());
+    answer.text("; ");
     push_blocks(alloc, answer, &outcome.world)
 }
 

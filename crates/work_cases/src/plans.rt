@@ -7,52 +7,60 @@ use crate::numbers::number_before;
 use crate::positions::push_position;
 use crate::scripts::{bytes_of, read};
 use crate::workloads::{workload, workload_with};
-use case_lines::{push_number, push_text};
+use case_lines::{Answer, push_text};
 use command_plan::{Plan, PlanFault, Planned};
 use edit_terms::{Case, Script, Source, WorldBox};
 use std::alloc::Global;
 
 /// `WORLD; SCRIPTS`: what each command reads and writes, and how many jobs there are.
-pub(crate) fn answer_plan(alloc: Global, input: &str, answer: &mut Vec<u8>) -> Option<()> {
+pub(crate) fn answer_plan(alloc: Global, input: &str, answer: &mut Answer) -> Option<()> {
     let (world, scripts) = input.split_once("; ")?;
     let case = workload(alloc, world, scripts)?;
     let plan = plan_of(alloc, &case)?;
-    push_players(answer, &plan, case.scripts.as_slice().len())?;
-    push_jobs(answer, plan.jobs())
+    push_players(answer, &plan, case.scripts.as_slice().len());
+    push_jobs(answer, plan.jobs());
+    Some(())
 }
 
 /// `N WORLD; SCRIPT`: how many jobs there are where the last command stands N times.
-pub(crate) fn answer_many(alloc: Global, input: &str, answer: &mut Vec<u8>) -> Option<()> {
+pub(crate) fn answer_many(alloc: Global, input: &str, answer: &mut Answer) -> Option<()> {
     let (count, rest) = number_before(input)?;
     let (world, script) = rest.split_once("; ")?;
     let scripts = repeated(alloc, script, count)?;
     let case = workload_with(alloc, world, scripts)?;
     match Plan::plan(alloc, &case) {
-        Ok(plan) => push_jobs(answer, plan.jobs()),
-        Err(fault) => push_fault(answer, fault),
+        Ok(plan) => {
+            push_jobs(answer, plan.jobs());
+            Some(())
+        }
+        Err(fault) => {
+            push_fault(answer, fault);
+            Some(())
+        }
     }
 }
 
 /// `WORLD; SCRIPTS`: how many jobs there are, the seed and the box.
-pub(crate) fn answer_head(alloc: Global, input: &str, answer: &mut Vec<u8>) -> Option<()> {
+pub(crate) fn answer_head(alloc: Global, input: &str, answer: &mut Answer) -> Option<()> {
     let (world, scripts) = input.split_once("; ")?;
     let case = workload(alloc, world, scripts)?;
     let plan = plan_of(alloc, &case)?;
-    push_jobs(answer, plan.jobs())?;
-    push_text(answer, ", seed ").ok()?;
-    push_number(answer, plan.seed()).ok()?;
-    push_text(answer, ", ").ok()?;
-    push_area(answer, plan.area())
+    push_jobs(answer, plan.jobs());
+    answer.text(", seed ");
+    answer.number(plan.seed());
+    answer.text(", ");
+    push_area(answer, plan.area());
+    Some(())
 }
 
 /// Appends a box.
-fn push_area(answer: &mut Vec<u8>, area: &WorldBox) -> Option<()> {
-    push_number(answer, area.width()).ok()?;
-    push_text(answer, "x").ok()?;
-    push_number(answer, area.height()).ok()?;
-    push_text(answer, "x").ok()?;
-    push_number(answer, area.length()).ok()?;
-    push_text(answer, " at ").ok()?;
+fn push_area(answer: &mut Answer, area: &WorldBox) {
+    answer.number(area.width());
+    answer.text("x");
+    answer.number(area.height());
+    answer.text("x");
+    answer.number(area.length());
+    answer.text(" at ");
     push_position(answer, &area.least())
 }
 
@@ -82,57 +90,57 @@ fn plan_of(alloc: Global, case: &Case) -> Option<Plan>
     }
 }
 
-fn push_fault(answer: &mut Vec<u8>, fault: PlanFault) -> Option<()> {
+fn push_fault(answer: &mut Answer, fault: PlanFault) {
     match fault {
         PlanFault::TooManyJobs { jobs } => {
-            push_text(answer, "too many jobs: ").ok()?;
-            push_number(answer, jobs).ok()
+            answer.text("too many jobs: ");
+            answer.number(jobs)
         }
-        PlanFault::Memory => None,
+        PlanFault::Memory => answer.fail(),
     }
 }
 
-fn push_jobs(answer: &mut Vec<u8>, jobs: u32) -> Option<()> {
-    push_number(answer, jobs).ok()?;
-    push_text(answer, " jobs").ok()
+fn push_jobs(answer: &mut Answer, jobs: u32) {
+    answer.number(jobs);
+    answer.text(" jobs")
 }
 
 /// Appends the commands of so many players, and those of one more, who has none.
-fn push_players(answer: &mut Vec<u8>, plan: &Plan, players: usize) -> Option<()> {
+fn push_players(answer: &mut Answer, plan: &Plan, players: usize) {
     for player in 0..players.saturating_add(1) {
-        push_commands(answer, plan, u32::try_from(player).ok()?)?;
+        match u32::try_from(player) {
+            Ok(player) => push_commands(answer, plan, player),
+            Err(_) => answer.fail(),
+        }
     }
-    Some(())
 }
 
 /// Appends the commands of a player, as long as there are any.
-fn push_commands(answer: &mut Vec<u8>, plan: &Plan, player: u32) -> Option<()> {
+fn push_commands(answer: &mut Answer, plan: &Plan, player: u32) {
     for step in 0..10_001 {
         match plan.planned(Source { player, step }) {
-            None => return Some(()),
-            Some(planned) => push_planned(answer, planned)?,
+            None => return,
+            Some(planned) => push_planned(answer, planned),
         }
     }
-    Some(())
 }
 
 /// Appends what a command reads and writes, and whether its changes are kept.
-fn push_planned(answer: &mut Vec<u8>, planned: &Planned) -> Option<()> {
-    push_chunks(answer, planned.reads.as_slice())?;
-    push_text(answer, ">").ok()?;
-    push_chunks(answer, planned.writes.as_slice())?;
+fn push_planned(answer: &mut Answer, planned: &Planned) {
+    push_chunks(answer, planned.reads.as_slice());
+    answer.text(">");
+    push_chunks(answer, planned.writes.as_slice());
     if planned.keeps {
-        push_text(answer, " kept").ok()?;
+        answer.text(" kept");
     }
-    push_text(answer, " | ").ok()
+    answer.text(" | ")
 }
 
-fn push_chunks(answer: &mut Vec<u8>, chunks: &[u32]) -> Option<()> {
+fn push_chunks(answer: &mut Answer, chunks: &[u32]) {
     let mut blank = "";
     for chunk in chunks {
-        push_text(answer, blank).ok()?;
-        push_number(answer, *chunk).ok()?;
+        answer.text(blank);
+        answer.number(*chunk);
         blank = " ";
     }
-    Some(())
 }

@@ -1,6 +1,6 @@
 //! Positions as texts, `X,Y,Z`.
 
-use case_lines::{push_number, push_text};
+use case_lines::Answer;
 use edit_terms::Pos;
 
 /// The position of a text.
@@ -15,10 +15,10 @@ pub(crate) fn position_of(text: &str) -> Option<Pos> {
 }
 
 /// Appends a position.
-pub(crate) fn push_position(answer: &mut Vec<u8>, p: &Pos) -> Option<()> {
-    push_number(answer, p.x).ok()?;
-    push_text(answer, ",").ok()?;
-    push_number(answer, p.y).ok()?;
-    push_text(answer, ",").ok()?;
-    push_number(answer, p.z).ok()
+pub(crate) fn push_position(answer: &mut Answer, p: &Pos) {
+    answer.number(p.x);
+    answer.text(",");
+    answer.number(p.y);
+    answer.text(",");
+    answer.number(p.z)
 }

@@ -1,24 +1,27 @@
 //! Regions and their positions.
 
 use crate::positions::position_of;
-use case_lines::push_text;
+use case_lines::Answer;
 use edit_terms::{Kind, Region, Selection};
 use plain_terms::is_inside;
 
 /// `PART SHAPE FIRST SECOND; POSITIONS`: whether each position is one of the region's. PART is `all`, `walls` or
 /// `faces`.
-pub(crate) fn answer(input: &str, answer: &mut Vec<u8>) -> Option<()> {
+pub(crate) fn answer(input: &str, answer: &mut Answer) -> Option<()> {
     let (text, positions) = input.split_once("; ")?;
     let region = region_of(text)?;
     for position in positions.split(' ') {
-        push_inside(answer, &region, position)?;
+        push_inside(answer, &region, position);
     }
     Some(())
 }
 
-fn push_inside(answer: &mut Vec<u8>, region: &Region, position: &str) -> Option<()> {
-    let is_one = is_inside(region, &position_of(position)?);
-    push_text(answer, if is_one { "+" } else { "-" }).ok()
+fn push_inside(answer: &mut Answer, region: &Region, position: &str) {
+    match position_of(position) {
+        Some(p) if is_inside(region, &p) => answer.text("+"),
+        Some(_) => answer.text("-"),
+        None => answer.fail(),
+    }
 }
 
 fn region_of(text: &str) -> Option<Region> {

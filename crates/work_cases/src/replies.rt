@@ -1,32 +1,32 @@
 //! Replies as texts.
 
-use case_lines::{push_number, push_text};
+use case_lines::Answer;
 use edit_terms::{Refusal, Reply};
 
 /// Appends replies.
-pub(crate) fn push_replies(answer: &mut Vec<u8>, replies: &[Reply]) -> Option<()> {
+pub(crate) fn push_replies(answer: &mut Answer, replies: &[Reply]) {
     if replies.is_empty() {
-        return push_text(answer, "nothing").ok();
+        answer.text("nothing");
+        return;
     }
     let mut comma = "";
     for reply in replies {
-        push_text(answer, comma).ok()?;
-        push_reply(answer, reply)?;
+        answer.text(comma);
+        push_reply(answer, reply);
         comma = ", ";
     }
-    Some(())
 }
 
-fn push_reply(answer: &mut Vec<u8>, reply: &Reply) -> Option<()> {
+fn push_reply(answer: &mut Answer, reply: &Reply) {
     match reply {
-        Reply::Accepted => push_text(answer, "ok").ok(),
-        Reply::Changed(count) => push_number(answer, *count).ok(),
+        Reply::Accepted => answer.text("ok"),
+        Reply::Changed(count) => answer.number(*count),
         Reply::Refused(refusal) => push_refusal(answer, *refusal),
     }
 }
 
 /// Appends what is wanting.
-pub(crate) fn push_refusal(answer: &mut Vec<u8>, refusal: Refusal) -> Option<()> {
+pub(crate) fn push_refusal(answer: &mut Answer, refusal: Refusal) {
     let text = match refusal {
         Refusal::NoSelection => "no selection",
         Refusal::NoPlace => "no place",
@@ -34,5 +34,5 @@ pub(crate) fn push_refusal(answer: &mut Vec<u8>, refusal: Refusal) -> Option<()>
         Refusal::NothingToUndo => "nothing to undo",
         Refusal::NothingToRedo => "nothing to redo",
     };
-    push_text(answer, text).ok()
+    answer.text(text)
 }

@@ -1,24 +1,24 @@
 //! Selections and regions as texts.
 
 use crate::positions::push_position;
-use case_lines::{push_number, push_text};
+use case_lines::Answer;
 use edit_terms::{Kind, Pos, Region, Selection};
 
 /// Appends a selection's shape and its two positions.
-pub(crate) fn push_selection(answer: &mut Vec<u8>, selection: &Selection) -> Option<()> {
+pub(crate) fn push_selection(answer: &mut Answer, selection: &Selection) {
     let shape = match selection.kind {
         Kind::Cuboid => "cuboid ",
         Kind::Sphere => "sphere ",
         Kind::Cylinder => "cyl ",
     };
-    push_text(answer, shape).ok()?;
-    push_position(answer, &selection.first)?;
-    push_text(answer, " ").ok()?;
+    answer.text(shape);
+    push_position(answer, &selection.first);
+    answer.text(" ");
     push_position(answer, &selection.second)
 }
 
 /// Appends a region.
-pub(crate) fn push_region(answer: &mut Vec<u8>, region: &Region) -> Option<()> {
+pub(crate) fn push_region(answer: &mut Answer, region: &Region) {
     match region {
         Region::Selected(selection) => push_selection(answer, selection),
         Region::Walls(selection) => push_part(answer, "walls of ", selection),
@@ -34,22 +34,22 @@ pub(crate) fn push_region(answer: &mut Vec<u8>, region: &Region) -> Option<()> {
             height,
             hollow,
         } => {
-            push_ball(answer, centre, *radius, *hollow)?;
-            push_text(answer, " high ").ok()?;
-            push_number(answer, *height).ok()
+            push_ball(answer, centre, *radius, *hollow);
+            answer.text(" high ");
+            answer.number(*height)
         }
     }
 }
 
-fn push_part(answer: &mut Vec<u8>, part: &str, selection: &Selection) -> Option<()> {
-    push_text(answer, part).ok()?;
+fn push_part(answer: &mut Answer, part: &str, selection: &Selection) {
+    answer.text(part);
     push_selection(answer, selection)
 }
 
-fn push_ball(answer: &mut Vec<u8>, centre: &Pos, radius: u32, hollow: bool) -> Option<()> {
+fn push_ball(answer: &mut Answer, centre: &Pos, radius: u32, hollow: bool) {
     let round = if hollow { "hollow round " } else { "round " };
-    push_text(answer, round).ok()?;
-    push_number(answer, radius).ok()?;
-    push_text(answer, " about ").ok()?;
+    answer.text(round);
+    answer.number(radius);
+    answer.text(" about ");
     push_position(answer, centre)
 }

@@ -7,7 +7,7 @@ use crate::scripts::one_script;
 use crate::selections::push_selection;
 use crate::steps::push_step;
 use crate::transforms::push_clip;
-use case_lines::{push_number, push_text};
+use case_lines::Answer;
 use edit_terms::{Command, Line, Step};
 use player_session::Session;
 use std::alloc::Global;
@@ -21,7 +21,7 @@ enum Told {
 }
 
 /// `SCRIPT` or `depth N SCRIPT`: what each command is.
-pub(crate) fn answer_steps(alloc: Global, input: &str, answer: &mut Vec<u8>) -> Option<()> {
+pub(crate) fn answer_steps(alloc: Global, input: &str, answer: &mut Answer) -> Option<()> {
     let (depth, script) = number_behind(input, "depth ", 15)?;
     if depth < 1 || depth > 1000 {
         return None;
@@ -30,30 +30,31 @@ pub(crate) fn answer_steps(alloc: Global, input: &str, answer: &mut Vec<u8>) -> 
 }
 
 /// `SCRIPT`: the selection behind each command.
-pub(crate) fn answer_selections(alloc: Global, input: &str, answer: &mut Vec<u8>) -> Option<()> {
+pub(crate) fn answer_selections(alloc: Global, input: &str, answer: &mut Answer) -> Option<()> {
     tell_all(alloc, input, 15, Told::Selection, answer)
 }
 
 /// `SCRIPT`: the clipboard behind each command.
-pub(crate) fn answer_clips(alloc: Global, input: &str, answer: &mut Vec<u8>) -> Option<()> {
+pub(crate) fn answer_clips(alloc: Global, input: &str, answer: &mut Answer) -> Option<()> {
     tell_all(alloc, input, 15, Told::Clip, answer)
 }
 
 /// `PLAYER`: the player's number, the count of commands, the selection and the clipboard of a new session.
-pub(crate) fn answer_new(alloc: Global, input: &str, answer: &mut Vec<u8>) -> Option<()> {
+pub(crate) fn answer_new(alloc: Global, input: &str, answer: &mut Answer) -> Option<()> {
     let session = Session::start(alloc, input.parse().ok()?, 1).ok()?;
-    push_text(answer, "player ").ok()?;
-    push_number(answer, session.player()).ok()?;
-    push_text(answer, ", taken ").ok()?;
-    push_number(answer, session.number()).ok()?;
-    push_text(answer, ", selection ").ok()?;
-    tell_selection(&session, answer)?;
-    push_text(answer, ", clipboard ").ok()?;
-    tell_clip(&session, answer)
+    answer.text("player ");
+    answer.number(session.player());
+    answer.text(", taken ");
+    answer.number(session.number());
+    answer.text(", selection ");
+    tell_selection(&session, answer);
+    answer.text(", clipboard ");
+    tell_clip(&session, answer);
+    Some(())
 }
 
 /// Appends what is told behind each command of player 7.
-fn tell_all(alloc: Global, script: &str, depth: u32, told: Told, answer: &mut Vec<u8>) -> Option<()>
+fn tell_all(alloc: Global, script: &str, depth: u32, told: Told, answer: &mut Answer) -> Option<()>
     requires low { 1 ≤ depth }
     requires high { depth ≤ 1000 }
 {
@@ -67,16 +68,17 @@ fn tell_lines(
     session: &mut Session,
     lines: &[Line],
     told: Told,
-    answer: &mut Vec<u8>,
+    answer: &mut Answer,
 ) -> Option<()> {
     if lines.is_empty() {
-        return push_text(answer, "nothing").ok();
+        answer.text("nothing");
+        return Some(());
     }
     let mut comma = "";
     for line in lines {
-        push_text(answer, comma).ok()?;
+        answer.text(comma);
         let step = next(alloc, session, &line.command)?;
-        tell(alloc, session, &step, told, answer)?;
+        tell(alloc, session, &step, told, answer);
         comma = " | ";
     }
     Some(())
@@ -90,13 +92,7 @@ fn next(alloc: Global, session: &mut Session, command: &Command) -> Option<Step>
     session.next(alloc, command).ok()
 }
 
-fn tell(
-    alloc: Global,
-    session: &Session,
-    step: &Step,
-    told: Told,
-    answer: &mut Vec<u8>,
-) -> Option<()> {
+fn tell(alloc: Global, session: &Session, step: &Step, told: Told, answer: &mut Answer) {
     match told {
         Told::Step => push_step(alloc, answer, step),
         Told::Selection => tell_selection(session, answer),
@@ -104,16 +100,16 @@ fn tell(
     }
 }
 
-fn tell_selection(session: &Session, answer: &mut Vec<u8>) -> Option<()> {
+fn tell_selection(session: &Session, answer: &mut Answer) {
     match session.selection() {
-        None => push_text(answer, "none").ok(),
+        None => answer.text("none"),
         Some(selection) => push_selection(answer, &selection),
     }
 }
 
-fn tell_clip(session: &Session, answer: &mut Vec<u8>) -> Option<()> {
+fn tell_clip(session: &Session, answer: &mut Answer) {
     match session.clip() {
-        None => push_text(answer, "none").ok(),
+        None => answer.text("none"),
         Some(clip) => push_clip(answer, &clip),
     }
 }

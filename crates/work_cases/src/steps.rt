@@ -4,28 +4,27 @@ use crate::positions::push_position;
 use crate::replies::push_refusal;
 use crate::selections::{push_region, push_selection};
 use crate::states::push_state;
-use case_lines::{push_number, push_text};
+use case_lines::Answer;
 use edit_terms::{BlockState, Direction, Mask, Pos, Region, Selection, Spec, Step, Work};
 use std::alloc::Global;
 
 /// Appends what a command is.
-pub(crate) fn push_step(alloc: Global, answer: &mut Vec<u8>, step: &Step) -> Option<()> {
+pub(crate) fn push_step(alloc: Global, answer: &mut Answer, step: &Step) {
     match step {
-        Step::Settled => push_text(answer, "ok").ok(),
+        Step::Settled => answer.text("ok"),
         Step::Refused(refusal) => push_refusal(answer, *refusal),
         Step::Job(spec) => push_job(alloc, answer, spec),
     }
 }
 
-fn push_job(alloc: Global, answer: &mut Vec<u8>, spec: &Spec) -> Option<()> {
-    push_work(alloc, answer, &spec.work)?;
+fn push_job(alloc: Global, answer: &mut Answer, spec: &Spec) {
+    push_work(alloc, answer, &spec.work);
     if spec.global.is_some() {
-        push_text(answer, " under gmask").ok()?;
+        answer.text(" under gmask");
     }
-    Some(())
 }
 
-fn push_work(alloc: Global, answer: &mut Vec<u8>, work: &Work) -> Option<()> {
+fn push_work(alloc: Global, answer: &mut Answer, work: &Work) {
     match work {
         Work::Fill { region, mask, .. } => push_fill(answer, region, mask),
         Work::Stack { from, count, to } => push_shift(answer, "stack ", from, *count, *to),
@@ -39,26 +38,19 @@ fn push_work(alloc: Global, answer: &mut Vec<u8>, work: &Work) -> Option<()> {
     }
 }
 
-fn push_fill(answer: &mut Vec<u8>, region: &Region, mask: &Option<Mask>) -> Option<()> {
-    push_text(answer, "fill ").ok()?;
-    push_region(answer, region)?;
+fn push_fill(answer: &mut Answer, region: &Region, mask: &Option<Mask>) {
+    answer.text("fill ");
+    push_region(answer, region);
     if mask.is_some() {
-        push_text(answer, " by mask").ok()?;
+        answer.text(" by mask");
     }
-    Some(())
 }
 
-fn push_shift(
-    answer: &mut Vec<u8>,
-    verb: &str,
-    from: &Selection,
-    count: u32,
-    to: Direction,
-) -> Option<()> {
-    push_taken(answer, verb, from)?;
-    push_text(answer, " by ").ok()?;
-    push_number(answer, count).ok()?;
-    push_text(answer, direction_text(to)).ok()
+fn push_shift(answer: &mut Answer, verb: &str, from: &Selection, count: u32, to: Direction) {
+    push_taken(answer, verb, from);
+    answer.text(" by ");
+    answer.number(count);
+    answer.text(direction_text(to))
 }
 
 fn direction_text(to: Direction) -> &'static str {
@@ -72,32 +64,30 @@ fn direction_text(to: Direction) -> &'static str {
     }
 }
 
-fn push_taken(answer: &mut Vec<u8>, verb: &str, from: &Selection) -> Option<()> {
-    push_text(answer, verb).ok()?;
+fn push_taken(answer: &mut Answer, verb: &str, from: &Selection) {
+    answer.text(verb);
     push_selection(answer, from)
 }
 
-fn push_paste(answer: &mut Vec<u8>, place: &Pos, skip_air: bool) -> Option<()> {
-    push_text(answer, "paste at ").ok()?;
-    push_position(answer, place)?;
+fn push_paste(answer: &mut Answer, place: &Pos, skip_air: bool) {
+    answer.text("paste at ");
+    push_position(answer, place);
     if skip_air {
-        push_text(answer, " without air").ok()?;
+        answer.text(" without air");
     }
-    Some(())
 }
 
-fn push_put(alloc: Global, answer: &mut Vec<u8>, at: &Pos, state: &BlockState) -> Option<()> {
-    push_text(answer, "put ").ok()?;
-    push_position(answer, at)?;
-    push_text(answer, " ").ok()?;
+fn push_put(alloc: Global, answer: &mut Answer, at: &Pos, state: &BlockState) {
+    answer.text("put ");
+    push_position(answer, at);
+    answer.text(" ");
     push_state(alloc, answer, state)
 }
 
-fn push_steps(answer: &mut Vec<u8>, verb: &str, steps: &[u32]) -> Option<()> {
-    push_text(answer, verb).ok()?;
+fn push_steps(answer: &mut Answer, verb: &str, steps: &[u32]) {
+    answer.text(verb);
     for step in steps {
-        push_text(answer, " ").ok()?;
-        push_number(answer, *step).ok()?;
+        answer.text(" ");
+        answer.number(*step);
     }
-    Some(())
 }

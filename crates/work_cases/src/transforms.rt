@@ -2,29 +2,29 @@
 
 use crate::positions::push_position;
 use crate::selections::push_selection;
-use case_lines::{push_number, push_text};
+use case_lines::Answer;
 use edit_terms::{Clip, Transform};
 
 /// Appends the command that copied, the selection, the place and the turns.
-pub(crate) fn push_clip(answer: &mut Vec<u8>, clip: &Clip) -> Option<()> {
-    push_number(answer, clip.source.player).ok()?;
-    push_text(answer, ":").ok()?;
-    push_number(answer, clip.source.step).ok()?;
-    push_text(answer, " ").ok()?;
-    push_selection(answer, &clip.from)?;
-    push_text(answer, " from ").ok()?;
-    push_position(answer, &clip.origin)?;
+pub(crate) fn push_clip(answer: &mut Answer, clip: &Clip) {
+    answer.number(clip.source.player);
+    answer.text(":");
+    answer.number(clip.source.step);
+    answer.text(" ");
+    push_selection(answer, &clip.from);
+    answer.text(" from ");
+    push_position(answer, &clip.origin);
     push_transform(answer, &clip.transform)
 }
 
 /// Appends the flips and the quarter turns.
-fn push_transform(answer: &mut Vec<u8>, transform: &Transform) -> Option<()> {
+fn push_transform(answer: &mut Answer, transform: &Transform) {
     if transform.flip_x {
-        push_text(answer, " flip x").ok()?;
+        answer.text(" flip x");
     }
     if transform.flip_y {
-        push_text(answer, " flip y").ok()?;
+        answer.text(" flip y");
     }
-    push_text(answer, " turns ").ok()?;
-    push_number(answer, transform.turns).ok()
+    answer.text(" turns ");
+    answer.number(transform.turns)
 }

@@ -7,7 +7,7 @@ ghost use Rattle.run_terms.specs.Workload.{workload_of};
 use crate::numbers::number_behind;
 use crate::scripts::all_scripts;
 use crate::worlds::world_of;
-use case_lines::push_text;
+use case_lines::Answer;
 use edit_terms::{Case, Items, Script};
 use run_terms::keeps_limits;
 use std::alloc::Global;
@@ -46,7 +46,7 @@ fn case_of(alloc: Global, world: &str, scripts: Vec<Script>) -> Option<Case> {
 }
 
 /// `WORLD; SCRIPTS`: whether the workload keeps the limits.
-pub(crate) fn answer_limits(alloc: Global, input: &str, answer: &mut Vec<u8>) -> Option<()> {
+pub(crate) fn answer_limits(alloc: Global, input: &str, answer: &mut Answer) -> Option<()> {
     let (world, scripts) = input.split_once("; ")?;
     let case = case_of(alloc, world, all_scripts(alloc, scripts)?)?;
     let told = if keeps_limits(&case) {
@@ -54,5 +54,6 @@ pub(crate) fn answer_limits(alloc: Global, input: &str, answer: &mut Vec<u8>) ->
     } else {
         "not kept"
     };
-    push_text(answer, told).ok()
+    answer.text(told);
+    Some(())
 }
