@@ -12,6 +12,7 @@ ghost use Rattle.change_set.specs.Changes.{positions, rises};
 use crate::boxes::{box_of, tell_position};
 use crate::contents::{at_place, contents_of, tell_content};
 use crate::places::{stretches, tell_places};
+use block_palette::Palette;
 use case_lines::{Answer, Memory};
 use change_set::{ChangeBuilder, Changes, Proposed, Run};
 use edit_terms::{Content, Pos, WorldBox};
@@ -42,8 +43,9 @@ pub fn answer_places(alloc: Global, kind: &str, input: &str, answer: &mut Answer
 
 fn tell_changes(answer: &mut Answer, changes: &Changes) {
     answer.number(changes.len());
-    for run in changes.runs() {
-        tell_run(answer, run);
+    let kept = changes.runs();
+    for run in kept.runs {
+        tell_run(answer, kept.contents, run);
     }
     answer.text("; walked ");
     answer.number(stretches(changes));
@@ -51,7 +53,7 @@ fn tell_changes(answer: &mut Answer, changes: &Changes) {
     answer.number(stretches(&changes.befores()))
 }
 
-fn tell_run(answer: &mut Answer, run: &Run) {
+fn tell_run(answer: &mut Answer, contents: &Palette<Content>, run: &Run) {
     answer.text("; ");
     tell_position(answer, &run.first);
     answer.text(" ");
@@ -59,9 +61,17 @@ fn tell_run(answer: &mut Answer, run: &Run) {
     answer.text("+");
     answer.number(run.length);
     answer.text(" ");
-    tell_content(answer, &run.before);
+    tell_numbered(answer, contents, run.before);
     answer.text(">");
-    tell_content(answer, &run.after)
+    tell_numbered(answer, contents, run.after)
+}
+
+/// Tells the content of a number.
+fn tell_numbered(answer: &mut Answer, contents: &Palette<Content>, number: u32) {
+    match contents.entry(number) {
+        Some(content) => tell_content(answer, content),
+        None => answer.fail(),
+    }
 }
 
 /// The box with its chunk, and the two rows of letters.

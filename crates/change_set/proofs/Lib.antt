@@ -1,7 +1,10 @@
+pub mod ContentLemmas
 pub mod ListLemmas
 pub mod RunLemmas
 pub mod ReadLemmas
 pub mod KeptLemmas
+pub mod SeenLemmas
+pub mod KeptRunLemmas
 pub mod CellLemmas
 pub mod SearchLemmas
 pub mod SortedLemmas

@@ -12,7 +12,7 @@ use Rattle.edit_terms.specs.declared.pos.Pos.{Pos}
 use Rattle.edit_terms.specs.Area.{Area, position_of}
 use Rattle.edit_terms.specs.World.{BlockContent}
 use Rattle.change_set.specs.declared.proposed.Proposed.{Proposed}
-use Rattle.change_set.specs.declared.run.Run.{Run}
+use Rattle.change_set.specs.ContentRun.{ContentRun}
 use Rattle.edit_terms.specs.Chunk.{chunk_box, place_in_chunk}
 use Rattle.change_set.specs.Changes.{run_changes, changes_of, afters, befores, IsRunOf}
 use Rattle.change_set.specs.Runs.{IsRun, AreRunsFrom, IsRunAt, cell_of_run, rest_of}
@@ -35,7 +35,7 @@ slice_get-cells part b c place (suc n) zero t h e = let same : place ≡ t = ome
 slice_get-cells part b c place (suc n) (suc j) t h e = slice_get-cells part b c (place + 1) n j t (omega (arith, h)) (omega (arith, e))
 
 -- where the changes of one of the runs stand
-pub record IsPlaced (a : Area) (start : ℕ) (runs : List Run) (k : ℕ) (run : Run) : Type 0 where
+pub record IsPlaced (a : Area) (start : ℕ) (runs : List ContentRun) (k : ℕ) (run : ContentRun) : Type 0 where
   pub before : ℕ
   pub start_is : run.start ≡ start + before
   pub is : IsRun a run.start run
@@ -44,25 +44,25 @@ pub record IsPlaced (a : Area) (start : ℕ) (runs : List Run) (k : ℕ) (run : 
   pub next : MatchOption (slice_get runs (k + 1)) (before + run.length ≡ length (changes_of a runs)) (λ after. after.start ≡ run.start + run.length)
 
 -- the run behind the first one starts where that ends
-next_start : (a : Area) (start : ℕ) (run : Run) (runs : List Run) → AreRunsFrom a start (run ∷ runs) → MatchOption (slice_get (run ∷ runs) 1) (0 + run.length ≡ length (changes_of a (run ∷ runs))) (λ after. after.start ≡ run.start + run.length)
+next_start : (a : Area) (start : ℕ) (run : ContentRun) (runs : List ContentRun) → AreRunsFrom a start (run ∷ runs) → MatchOption (slice_get (run ∷ runs) 1) (0 + run.length ≡ length (changes_of a (run ∷ runs))) (λ after. after.start ≡ run.start + run.length)
 next_start a start run [] each =
     let one : length (run_changes a run) ≡ run.length = length-cells (chunk_box a run.first) run.before run.after (place_in_chunk a run.first) run.length in
     omega (arith, one, length-append (run_changes a run) [])
 next_start a start run (after ∷ runs) each = let first = each.0.start_is in let second = each.1.0.start_is in omega (arith, first, second)
 
 -- the same behind more changes
-behind_more : (o : Option Run) (before len more total all end : ℕ) → all ≡ more + total → MatchOption o (before + len ≡ total) (λ after. after.start ≡ end)
+behind_more : (o : Option ContentRun) (before len more total all end : ℕ) → all ≡ more + total → MatchOption o (before + len ≡ total) (λ after. after.start ≡ end)
     → MatchOption o (more + before + len ≡ all) (λ after. after.start ≡ end)
 behind_more None before len more total all end e h = omega (arith, e, h)
 behind_more (Some after) before len more total all end e h = h
 
-pub placed : (a : Area) (start : ℕ) (runs : List Run) (k : ℕ) (run : Run) → AreRunsFrom a start runs → slice_get runs k ≡ Some run → IsPlaced a start runs k run
+pub placed : (a : Area) (start : ℕ) (runs : List ContentRun) (k : ℕ) (run : ContentRun) → AreRunsFrom a start runs → slice_get runs k ≡ Some run → IsPlaced a start runs k run
 placed a start [] k run each there = absurd cc
 placed a start (r ∷ runs) zero run each there =
     let same : r ≡ run = cc in
     let one : length (run_changes a r) ≡ r.length = length-cells (chunk_box a r.first) r.before r.after (place_in_chunk a r.first) r.length in
     let start_is = each.0.start_is in
-    subst (λ (s : Run). IsPlaced a start (r ∷ runs) 0 s) same (record {
+    subst (λ (s : ContentRun). IsPlaced a start (r ∷ runs) 0 s) same (record {
       before = 0;
       start_is = omega (arith, start_is);
       is = subst (λ (n : ℕ). IsRun a n r) (sym start_is) each.0;
@@ -87,13 +87,13 @@ placed a start (r ∷ runs) (suc k) run each there =
     }
 
 -- the run that starts last at or before a place has the change there
-ends_behind : (o : Option Run) (i before len start total : ℕ) → start ≡ before → i < total → MatchOption o (before + len ≡ total) (λ after. after.start ≡ start + len)
-    → ((after : Run) → o ≡ Some after → i < after.start) → i < start + len
+ends_behind : (o : Option ContentRun) (i before len start total : ℕ) → start ≡ before → i < total → MatchOption o (before + len ≡ total) (λ after. after.start ≡ start + len)
+    → ((after : ContentRun) → o ≡ Some after → i < after.start) → i < start + len
 ends_behind None i before len start total e within next above = omega (arith, e, within, next)
 ends_behind (Some after) i before len start total e within next above = let here : i < after.start = above after refl in omega (arith, next, here)
 
-pub run_at : (a : Area) (runs : List Run) (k : ℕ) (run : Run) (i : ℕ) → AreRunsFrom a 0 runs → slice_get runs k ≡ Some run → i < length (changes_of a runs) → run.start ≤ i
-    → ((after : Run) → slice_get runs (k + 1) ≡ Some after → i < after.start) → IsRunAt a (changes_of a runs) i run
+pub run_at : (a : Area) (runs : List ContentRun) (k : ℕ) (run : ContentRun) (i : ℕ) → AreRunsFrom a 0 runs → slice_get runs k ≡ Some run → i < length (changes_of a runs) → run.start ≤ i
+    → ((after : ContentRun) → slice_get runs (k + 1) ≡ Some after → i < after.start) → IsRunAt a (changes_of a runs) i run
 run_at a runs k run i each there within from above =
     let p = placed a 0 runs k run each there in
     let start_is : run.start ≡ p.before = omega (arith, p.start_is) in
@@ -107,17 +107,17 @@ run_at a runs k run i each there within from above =
     }
 
 -- the change at the place
-pub change_there : (a : Area) (list : List Proposed) (i : ℕ) (run : Run) → IsRunAt a list i run → (k : ℕ) → i ≤ k → k < run.start + run.length → slice_get list k ≡ Some (cell_of_run a run (k - run.start))
+pub change_there : (a : Area) (list : List Proposed) (i : ℕ) (run : ContentRun) → IsRunAt a list i run → (k : ℕ) → i ≤ k → k < run.start + run.length → slice_get list k ≡ Some (cell_of_run a run (k - run.start))
 change_there a list i run is k from to =
     let e : run.start + (k - run.start) ≡ k = omega (arith, is.from, from) in
     let below : k - run.start < run.length = omega (arith, to, is.from, from) in
     subst (λ (n : ℕ). slice_get list n ≡ Some (cell_of_run a run (k - run.start))) e (is.each (k - run.start) below)
 
 -- what is read at a place of the list of positions and contents afterwards, or before
-pub after_read : (a : Area) (list : List Proposed) (i : ℕ) (run : Run) → IsRunAt a list i run → (k : ℕ) → i ≤ k → k < run.start + run.length → slice_get (afters list) k ≡ Some ((cell_of_run a run (k - run.start)).at, run.after)
+pub after_read : (a : Area) (list : List Proposed) (i : ℕ) (run : ContentRun) → IsRunAt a list i run → (k : ℕ) → i ≤ k → k < run.start + run.length → slice_get (afters list) k ≡ Some ((cell_of_run a run (k - run.start)).at, run.after)
 after_read a list i run is k from to = slice_get-map (λ (d : Proposed). (d.at, d.after)) list k ∙ ap (option_map (λ (d : Proposed). (d.at, d.after))) (change_there a list i run is k from to)
 
-pub before_read : (a : Area) (list : List Proposed) (i : ℕ) (run : Run) → IsRunAt a list i run → (k : ℕ) → i ≤ k → k < run.start + run.length → slice_get (befores list) k ≡ Some ((cell_of_run a run (k - run.start)).at, run.before)
+pub before_read : (a : Area) (list : List Proposed) (i : ℕ) (run : ContentRun) → IsRunAt a list i run → (k : ℕ) → i ≤ k → k < run.start + run.length → slice_get (befores list) k ≡ Some ((cell_of_run a run (k - run.start)).at, run.before)
 before_read a list i run is k from to = slice_get-map (λ (d : Proposed). (d.at, d.before)) list k ∙ ap (option_map (λ (d : Proposed). (d.at, d.before))) (change_there a list i run is k from to)
 
 -- a place past the end has no entity
@@ -138,13 +138,13 @@ pub content_there : (list : List (Pos × BlockContent)) (i : ℕ) (p : Pos) (c :
 content_there list i p c there = ap (option_map (λ (d : Pos × BlockContent). d.1)) there
 
 -- the contents stay the same to the run's end
-pub afters_stay : (a : Area) (list : List Proposed) (i : ℕ) (run : Run) → IsRunAt a list i run → IsSameFrom (afters list) i (run.length - (i - run.start))
+pub afters_stay : (a : Area) (list : List Proposed) (i : ℕ) (run : ContentRun) → IsRunAt a list i run → IsSameFrom (afters list) i (run.length - (i - run.start))
 afters_stay a list i run is further below =
     let here : i < run.start + run.length = is.to in
     let there : i + further < run.start + run.length = omega (arith, below, here, is.from) in
     content_there (afters list) (i + further) _ run.after (after_read a list i run is (i + further) (omega arith) there) ∙ sym (content_there (afters list) i _ run.after (after_read a list i run is i (omega arith) here))
 
-pub befores_stay : (a : Area) (list : List Proposed) (i : ℕ) (run : Run) → IsRunAt a list i run → IsSameFrom (befores list) i (run.length - (i - run.start))
+pub befores_stay : (a : Area) (list : List Proposed) (i : ℕ) (run : ContentRun) → IsRunAt a list i run → IsSameFrom (befores list) i (run.length - (i - run.start))
 befores_stay a list i run is further below =
     let here : i < run.start + run.length = is.to in
     let there : i + further < run.start + run.length = omega (arith, below, here, is.from) in
@@ -158,7 +158,7 @@ pub length-befores : (list : List Proposed) → length (befores list) ≡ length
 length-befores list = length-map list (λ (d : Proposed). (d.at, d.before))
 
 -- what is left of a run behind a place is a stretch, of whatever is read of the changes
-stretch_read : (a : Area) (list : List Proposed) (read : List (Pos × BlockContent)) (i : ℕ) (run : Run) (content : BlockContent) → IsRunAt a list i run → length read ≡ length list
+stretch_read : (a : Area) (list : List Proposed) (read : List (Pos × BlockContent)) (i : ℕ) (run : ContentRun) (content : BlockContent) → IsRunAt a list i run → length read ≡ length list
     → ((k : ℕ) → i ≤ k → k < run.start + run.length → slice_get read k ≡ Some ((cell_of_run a run (k - run.start)).at, content))
     → IsSameFrom read i (run.length - (i - run.start)) → IsStretch read i (rest_of a run.first run.length (i - run.start))
 stretch_read a list read i run content is as_many there stays =
@@ -178,21 +178,21 @@ stretch_read a list read i run content is as_many there stays =
       same = stays;
     }
 
-pub afters_stretch : (a : Area) (list : List Proposed) (i : ℕ) (run : Run) → IsRunAt a list i run → IsStretch (afters list) i (rest_of a run.first run.length (i - run.start))
+pub afters_stretch : (a : Area) (list : List Proposed) (i : ℕ) (run : ContentRun) → IsRunAt a list i run → IsStretch (afters list) i (rest_of a run.first run.length (i - run.start))
 afters_stretch a list i run is = stretch_read a list (afters list) i run run.after is (length-afters list) (after_read a list i run is) (afters_stay a list i run is)
 
-pub befores_stretch : (a : Area) (list : List Proposed) (i : ℕ) (run : Run) → IsRunAt a list i run → IsStretch (befores list) i (rest_of a run.first run.length (i - run.start))
+pub befores_stretch : (a : Area) (list : List Proposed) (i : ℕ) (run : ContentRun) → IsRunAt a list i run → IsStretch (befores list) i (rest_of a run.first run.length (i - run.start))
 befores_stretch a list i run is = stretch_read a list (befores list) i run run.before is (length-befores list) (before_read a list i run is) (befores_stay a list i run is)
 
 -- the starts of runs rise
-start_from : (a : Area) (start : ℕ) (runs : List Run) (j : ℕ) (d : Run) → AreRunsFrom a start runs → j < length runs → start ≤ (get_or runs j d).start
+start_from : (a : Area) (start : ℕ) (runs : List ContentRun) (j : ℕ) (d : ContentRun) → AreRunsFrom a start runs → j < length runs → start ≤ (get_or runs j d).start
 start_from a start [] j d each below = absurd (omega (arith, below))
 start_from a start (run ∷ runs) zero d each below = let first = each.0.start_is in omega (arith, first)
 start_from a start (run ∷ runs) (suc j) d each below =
     let rest = start_from a (start + run.length) runs j d each.1 (omega (arith, below)) in
     omega (arith, rest)
 
-starts_rise : (a : Area) (start : ℕ) (runs : List Run) → AreRunsFrom a start runs → (i j : ℕ) (d : Run) → i ≤ j → j < length runs → (get_or runs i d).start ≤ (get_or runs j d).start
+starts_rise : (a : Area) (start : ℕ) (runs : List ContentRun) → AreRunsFrom a start runs → (i j : ℕ) (d : ContentRun) → i ≤ j → j < length runs → (get_or runs i d).start ≤ (get_or runs j d).start
 starts_rise a start [] each i j d order below = absurd (omega (arith, below))
 starts_rise a start (run ∷ runs) each zero zero d order below = omega arith
 starts_rise a start (run ∷ runs) each zero (suc j) d order below =
@@ -202,11 +202,11 @@ starts_rise a start (run ∷ runs) each zero (suc j) d order below =
 starts_rise a start (run ∷ runs) each (suc i) zero d order below = absurd (omega (arith, order))
 starts_rise a start (run ∷ runs) each (suc i) (suc j) d order below = starts_rise a (start + run.length) runs each.1 i j d (omega (arith, order)) (omega (arith, below))
 
-pub starts_sorted : (a : Area) (runs : List Run) → AreRunsFrom a 0 runs → IsNonDecreasingBy (λ (run : Run). run.start) runs
+pub starts_sorted : (a : Area) (runs : List ContentRun) → AreRunsFrom a 0 runs → IsNonDecreasingBy (λ (run : ContentRun). run.start) runs
 starts_sorted a runs each = starts_rise a 0 runs each
 
 -- each of the runs is one of the list that they make, behind changes that stand before it
-runs_of : (a : Area) (start : ℕ) (runs : List Run) (earlier list : List Proposed) → AreRunsFrom a start runs → start ≡ length earlier → list ≡ earlier ++ changes_of a runs
+runs_of : (a : Area) (start : ℕ) (runs : List ContentRun) (earlier list : List Proposed) → AreRunsFrom a start runs → start ≡ length earlier → list ≡ earlier ++ changes_of a runs
     → All (IsRunOf (record { area = a; list = list })) runs
 runs_of a start [] earlier list each e whole = All-nil (IsRunOf (record { area = a; list = list }))
 runs_of a start (run ∷ runs) earlier list each e whole =
@@ -221,7 +221,7 @@ runs_of a start (run ∷ runs) earlier list each e whole =
     All-cons (IsRunOf (record { area = a; list = list })) run runs (record { some = is.some; held = is.held; fits = is.fits; changes = here })
     (runs_of a (start + run.length) runs (earlier ++ run_changes a run) list each.1 next (whole ∙ sym (append_assoc earlier (run_changes a run) (changes_of a runs))))
 
-pub each_is_run_of : (a : Area) (runs : List Run) → AreRunsFrom a 0 runs → All (IsRunOf (record { area = a; list = changes_of a runs })) runs
+pub each_is_run_of : (a : Area) (runs : List ContentRun) → AreRunsFrom a 0 runs → All (IsRunOf (record { area = a; list = changes_of a runs })) runs
 each_is_run_of a runs each = runs_of a 0 runs [] (changes_of a runs) each refl refl
 
 pub ruleset as_many = (length-afters, length-befores)

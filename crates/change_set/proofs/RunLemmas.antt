@@ -1,5 +1,5 @@
 -- Runs that keep changes go on keeping them with a stretch more: in a run of its own, or in a longer last run.
-use Rattle.std.proofs.Common.{◌≡◌, ℕ, zero, suc, ◌+◌, ◌<◌, ◌≤◌, Bool, true, false, ◌&&◌, cond, List, [], ◌∷◌, ◌++◌, map, length, Some, slice_get, set, IfSome, refl, sym, ap, ◌∙◌, subst, arith, eqb, append_assoc}
+use Rattle.std.proofs.Common.{◌≡◌, ℕ, zero, suc, ◌+◌, ◌<◌, ◌≤◌, Bool, true, false, ◌&&◌, cond, List, [], ◌∷◌, ◌++◌, map, length, Some, slice_get, IfSome, refl, sym, ap, ◌∙◌, subst, arith, eqb, append_assoc}
 use Rattle.std.specs.Cmp.Derive.{both_true}
 use borrow.Author.Tests.{eqb-true}
 use Rattle.std.proofs.lemmas.List.{map-append, append-nil, length-append, length-map}
@@ -11,15 +11,16 @@ use Rattle.edit_terms.specs.World.{BlockContent}
 use Rattle.edit_terms.specs.Same.{same_content, content_decides}
 use Rattle.edit_terms.proofs.AreaLemmas.{and_both, limits, position_at_index, held_below}
 use Rattle.change_set.specs.declared.proposed.Proposed.{Proposed}
-use Rattle.change_set.specs.declared.run.Run.{Run}
+use Rattle.change_set.specs.ContentRun.{ContentRun}
 use Rattle.edit_terms.specs.Chunk.{chunk_box, place_in_chunk}
 use Rattle.change_set.specs.Changes.{positions, rises_from, rises, is_change, ChangeList, stretch, kept_stretch, kept_change, run_changes, changes_of, breaks_behind, breaks, goes_on_behind}
-use Rattle.change_set.specs.Runs.{IsRun, AreRunsFrom, AreKept, AreChangesKept, follows, with_last_longer}
+use Rattle.std.specs.List.{list_all}
+use Rattle.change_set.specs.Runs.{IsRun, AreRunsFrom, AreKept, follows, with_last_longer}
 use Rattle.edit_terms.proofs.ChunkLemmas.{same_part, part_held, in_part, part_order}
 use Rattle.change_set.proofs.ListLemmas.{rising_from_first, rises_lower, rises_join, rises_length, cell, cells, length-cells, cells-append, cells_rise, breaks_behind-cells, goes_on_behind-append, goes_on_behind-cells, breaks-push, cells_change, block_of_part}
 
 -- what holds once a stretch of n changes stands behind the changes that runs keep
-pub record IsExtended (a : Area) (runs : List Run) (count : ℕ) (first : Pos) (n : ℕ) (before after : BlockContent) (longer : List Run) : Type 0 where
+pub record IsExtended (a : Area) (runs : List ContentRun) (count : ℕ) (first : Pos) (n : ℕ) (before after : BlockContent) (longer : List ContentRun) : Type 0 where
   pub kept : AreKept a longer (count + n)
   pub list : changes_of a longer ≡ changes_of a runs ++ stretch a first n before after
   pub small : count + n ≤ 33554432
@@ -93,7 +94,7 @@ stretch_breaks a list first (suc n) b c box can =
     subst (λ (e : Proposed). breaks a (list ++ e ∷ rest) ≡ breaks a list ++ cond (goes_on_behind a list d) [] (length list ∷ [])) (sym is_first) plain
 
 -- a run more
-run_behind : (a : Area) (start : ℕ) (runs : List Run) (run : Run) → AreRunsFrom a start runs → IsRun a (start + length (changes_of a runs)) run → AreRunsFrom a start (runs ++ run ∷ [])
+run_behind : (a : Area) (start : ℕ) (runs : List ContentRun) (run : ContentRun) → AreRunsFrom a start runs → IsRun a (start + length (changes_of a runs)) run → AreRunsFrom a start (runs ++ run ∷ [])
 run_behind a start [] run each is = let e : start + 0 ≡ start = omega arith in (subst (λ (s : ℕ). IsRun a s run) e is, tt)
 run_behind a start (r ∷ runs) run each is =
     let one : length (run_changes a r) ≡ r.length = length-cells (chunk_box a r.first) r.before r.after (place_in_chunk a r.first) r.length in
@@ -101,19 +102,19 @@ run_behind a start (r ∷ runs) run each is =
     ap (λ (m : ℕ). start + m) (length-append (run_changes a r) (changes_of a runs)) ∙ omega (arith, one) in
     (each.0, run_behind a (start + r.length) runs run each.1 (subst (λ (s : ℕ). IsRun a s run) e is))
 
-pub begun : (a : Area) (runs : List Run) (count : ℕ) (first : Pos) (n : ℕ) (b c : BlockContent) → is_world_box a ≡ true → AreKept a runs count
+pub begun : (a : Area) (runs : List ContentRun) (count : ℕ) (first : Pos) (n : ℕ) (b c : BlockContent) → is_world_box a ≡ true → AreKept a runs count
     → CanExtend a (changes_of a runs) first n → goes_on_behind a (changes_of a runs) (record { at = first; before = b; after = c }) ≡ false
     → IsExtended a runs count first n b c (runs ++ record { first = first; start = count; length = n; before = b; after = c } ∷ [])
 begun a runs count first n b c box kept can apart =
-    let run : Run = record { first = first; start = count; length = n; before = b; after = c } in
+    let run : ContentRun = record { first = first; start = count; length = n; before = b; after = c } in
     let list = changes_of a runs in
     let held = held_last a 0 (positions list) first can.rising in
     let more = longer_list a list first n b c box can in
     let whole : changes_of a (runs ++ run ∷ []) ≡ list ++ stretch a first n b c =
     flat_map-append (run_changes a) runs (run ∷ []) ∙ ap (λ (xs : List Proposed). list ++ xs) (append-nil (stretch a first n b c)) in
     let is_run : IsRun a (0 + length list) run = record { start_is = omega (arith, kept.count_is); some = can.some; held = held; fits = can.fits } in
-    let starts : map (λ (r : Run). r.start) (runs ++ run ∷ []) ≡ breaks a (list ++ stretch a first n b c) =
-    map-append (λ (r : Run). r.start) runs (run ∷ []) ∙ (λ i. kept.starts i ++ kept.count_is i ∷ [])
+    let starts : map (λ (r : ContentRun). r.start) (runs ++ run ∷ []) ≡ breaks a (list ++ stretch a first n b c) =
+    map-append (λ (r : ContentRun). r.start) runs (run ∷ []) ∙ (λ i. kept.starts i ++ kept.count_is i ∷ [])
     ∙ sym (stretch_breaks a list first n b c box can ∙ ap (λ (t : Bool). breaks a list ++ cond t [] (length list ∷ [])) apart) in
     record {
       kept = record {
@@ -127,12 +128,12 @@ begun a runs count first n b c box kept can apart =
     }
 
 -- a run and the stretch behind it are one stretch
-record IsOneStretch (a : Area) (run : Run) (first : Pos) (n : ℕ) (b c : BlockContent) : Type 0 where
+record IsOneStretch (a : Area) (run : ContentRun) (first : Pos) (n : ℕ) (b c : BlockContent) : Type 0 where
   pub longer : run_changes a (record run { length = run.length + n }) ≡ run_changes a run ++ stretch a first n b c
   pub room : place_in_chunk a run.first + (run.length + n) ≤ volume (chunk_box a run.first)
 
 -- what goes on behind the cells of a run is the next cell, with the run's contents
-pub goes_on-run : (a : Area) (start : ℕ) (run : Run) (d : Proposed) → is_world_box a ≡ true → IsRun a start run
+pub goes_on-run : (a : Area) (start : ℕ) (run : ContentRun) (d : Proposed) → is_world_box a ≡ true → IsRun a start run
     → goes_on_behind a (run_changes a run) d ≡ (follows a run.first run.length d.at && (same_content run.before d.before && same_content run.after d.after))
 goes_on-run a start run d box is = by run.length refl
   where
@@ -151,7 +152,7 @@ goes_on-run a start run d box is = by run.length refl
         ∙ ap (λ (n : ℕ). (holds part d.at && eqb (index_of part d.at) n) && (same_content run.before d.before && same_content run.after d.after)) step
 
 -- where the change goes on behind a run, run and stretch are one
-one_stretch : (a : Area) (start : ℕ) (run : Run) (first : Pos) (n : ℕ) (b c : BlockContent) → is_world_box a ≡ true → IsRun a start run
+one_stretch : (a : Area) (start : ℕ) (run : ContentRun) (first : Pos) (n : ℕ) (b c : BlockContent) → is_world_box a ≡ true → IsRun a start run
     → place_in_chunk a first + n ≤ volume (chunk_box a first)
     → goes_on_behind a (run_changes a run) (record { at = first; before = b; after = c }) ≡ true → IsOneStretch a run first n b c
 one_stretch a start run first n b c box is fits on =
@@ -176,10 +177,10 @@ one_stretch a start run first n b c box is fits on =
     }
 
 -- What lengthening the last run gives: the stretch stands behind the changes, and the runs are as before else.
-record IsLastLonger (a : Area) (start : ℕ) (runs : List Run) (first : Pos) (n : ℕ) (b c : BlockContent) : Type 0 where
+record IsLastLonger (a : Area) (start : ℕ) (runs : List ContentRun) (first : Pos) (n : ℕ) (b c : BlockContent) : Type 0 where
   pub whole : changes_of a (with_last_longer runs n) ≡ changes_of a runs ++ stretch a first n b c
   pub each : AreRunsFrom a start (with_last_longer runs n)
-  pub starts : map (λ (r : Run). r.start) (with_last_longer runs n) ≡ map (λ (r : Run). r.start) runs
+  pub starts : map (λ (r : ContentRun). r.start) (with_last_longer runs n) ≡ map (λ (r : ContentRun). r.start) runs
 
 -- the changes of runs that are not empty begin with one
 record IsHeaded (xs : List Proposed) : Type 0 where
@@ -187,7 +188,7 @@ record IsHeaded (xs : List Proposed) : Type 0 where
   pub rest : List Proposed
   pub is : xs ≡ head ∷ rest
 
-headed : (a : Area) (start : ℕ) (run : Run) (runs : List Run) → AreRunsFrom a start (run ∷ runs) → IsHeaded (changes_of a (run ∷ runs))
+headed : (a : Area) (start : ℕ) (run : ContentRun) (runs : List ContentRun) → AreRunsFrom a start (run ∷ runs) → IsHeaded (changes_of a (run ∷ runs))
 headed a start run runs each = by run.length refl
   where
     by : (len : ℕ) → run.length ≡ len → IsHeaded (changes_of a (run ∷ runs))
@@ -202,13 +203,13 @@ headed a start run runs each = by run.length refl
         }
 
 -- what goes on behind runs goes on behind the last
-goes_on-rest : (a : Area) (start : ℕ) (first next : Run) (runs : List Run) (d : Proposed) → AreRunsFrom a start (next ∷ runs)
+goes_on-rest : (a : Area) (start : ℕ) (first next : ContentRun) (runs : List ContentRun) (d : Proposed) → AreRunsFrom a start (next ∷ runs)
     → goes_on_behind a (changes_of a (first ∷ next ∷ runs)) d ≡ goes_on_behind a (changes_of a (next ∷ runs)) d
 goes_on-rest a start first next runs d each =
     let h = headed a start next runs each in
     ap (λ (xs : List Proposed). goes_on_behind a (run_changes a first ++ xs) d) h.is ∙ goes_on_behind-append a (run_changes a first) h.head h.rest d ∙ ap (λ (xs : List Proposed). goes_on_behind a xs d) (sym h.is)
 
-last_longer : (a : Area) (start : ℕ) (runs : List Run) (first : Pos) (n : ℕ) (b c : BlockContent) → is_world_box a ≡ true → AreRunsFrom a start runs
+last_longer : (a : Area) (start : ℕ) (runs : List ContentRun) (first : Pos) (n : ℕ) (b c : BlockContent) → is_world_box a ≡ true → AreRunsFrom a start runs
     → place_in_chunk a first + n ≤ volume (chunk_box a first)
     → goes_on_behind a (changes_of a runs) (record { at = first; before = b; after = c }) ≡ true → IsLastLonger a start runs first n b c
 last_longer a start [] first n b c box each fits on = absurd cc
@@ -232,7 +233,7 @@ last_longer a start (run ∷ next ∷ runs) first n b c box each fits on =
       starts = ap (λ (ns : List ℕ). run.start ∷ ns) rest.starts;
     }
 
-pub lengthened : (a : Area) (runs : List Run) (count : ℕ) (first : Pos) (n : ℕ) (b c : BlockContent) → is_world_box a ≡ true → AreKept a runs count
+pub lengthened : (a : Area) (runs : List ContentRun) (count : ℕ) (first : Pos) (n : ℕ) (b c : BlockContent) → is_world_box a ≡ true → AreKept a runs count
     → CanExtend a (changes_of a runs) first n → goes_on_behind a (changes_of a runs) (record { at = first; before = b; after = c }) ≡ true
     → IsExtended a runs count first n b c (with_last_longer runs n)
 lengthened a runs count first n b c box kept can on =
@@ -253,33 +254,25 @@ lengthened a runs count first n b c box kept can on =
     }
 
 -- what is known of the last of runs
-pub record IsLast (a : Area) (runs : List Run) (run : Run) : Type 0 where
+pub record IsLast (a : Area) (runs : List ContentRun) (run : ContentRun) : Type 0 where
   pub start : ℕ
   pub is : IsRun a start run
   pub behind : (d : Proposed) → goes_on_behind a (changes_of a runs) d ≡ (follows a run.first run.length d.at && (same_content run.before d.before && same_content run.after d.after))
 
-pub last_run : (a : Area) (start : ℕ) (runs : List Run) (k : ℕ) (run : Run) → is_world_box a ≡ true → AreRunsFrom a start runs → k + 1 ≡ length runs → slice_get runs k ≡ Some run → IsLast a runs run
+pub last_run : (a : Area) (start : ℕ) (runs : List ContentRun) (k : ℕ) (run : ContentRun) → is_world_box a ≡ true → AreRunsFrom a start runs → k + 1 ≡ length runs → slice_get runs k ≡ Some run → IsLast a runs run
 last_run a start [] k run box each e there = absurd (omega (arith, e))
 last_run a start (r ∷ []) zero run box each e there =
     let same : r ≡ run = cc in
-    let is : IsRun a start run = subst (λ (s : Run). IsRun a start s) same each.0 in
-    record { start = start; is = is; behind = λ d. ap (λ (s : Run). goes_on_behind a (changes_of a (s ∷ [])) d) same ∙ ap (λ (xs : List Proposed). goes_on_behind a xs d) (append-nil (run_changes a run)) ∙ goes_on-run a start run d box is }
+    let is : IsRun a start run = subst (λ (s : ContentRun). IsRun a start s) same each.0 in
+    record { start = start; is = is; behind = λ d. ap (λ (s : ContentRun). goes_on_behind a (changes_of a (s ∷ [])) d) same ∙ ap (λ (xs : List Proposed). goes_on_behind a xs d) (append-nil (run_changes a run)) ∙ goes_on-run a start run d box is }
 last_run a start (r ∷ []) (suc k) run box each e there = absurd (omega (arith, e))
 last_run a start (r ∷ next ∷ runs) zero run box each e there = absurd (omega (arith, e))
 last_run a start (r ∷ next ∷ runs) (suc k) run box each e there =
     let rest = last_run a (start + r.length) (next ∷ runs) k run box each.1 (omega (arith, e)) there in
     record { start = rest.start; is = rest.is; behind = λ d. goes_on-rest a (start + r.length) r next runs d each.1 ∙ rest.behind d }
 
--- a last run that is made longer
-pub set_last : (runs : List Run) (k more : ℕ) (run : Run) → k + 1 ≡ length runs → slice_get runs k ≡ Some run → set runs k (record run { length = run.length + more }) ≡ with_last_longer runs more
-set_last [] k more run e there = absurd (omega (arith, e))
-set_last (r ∷ []) zero more run e there = let same : run ≡ r = cc in ap (λ (s : Run). let t : Run = record s { length = s.length + more } in t ∷ []) same
-set_last (r ∷ []) (suc k) more run e there = absurd (omega (arith, e))
-set_last (r ∷ next ∷ runs) zero more run e there = absurd (omega (arith, e))
-set_last (r ∷ next ∷ runs) (suc k) more run e there = ap (λ (rs : List Run). r ∷ rs) (set_last (next ∷ runs) k more run (omega (arith, e)) there)
-
 -- a last run with more cells still has few enough
-pub last_fits : (a : Area) (start : ℕ) (runs : List Run) (k more : ℕ) → AreRunsFrom a start runs → length (changes_of a runs) + more ≤ 33554432 → IfSome (slice_get runs k) (λ run. run.length + more < 4294967296)
+pub last_fits : (a : Area) (start : ℕ) (runs : List ContentRun) (k more : ℕ) → AreRunsFrom a start runs → length (changes_of a runs) + more ≤ 33554432 → IfSome (slice_get runs k) (λ run. run.length + more < 4294967296)
 last_fits a start [] k more each small = tt
 last_fits a start (run ∷ runs) zero more each small =
     let one : length (run_changes a run) ≡ run.length = length-cells (chunk_box a run.first) run.before run.after (place_in_chunk a run.first) run.length in
@@ -287,7 +280,7 @@ last_fits a start (run ∷ runs) zero more each small =
 last_fits a start (run ∷ runs) (suc k) more each small = last_fits a (start + run.length) runs k more each.1 (omega (arith, small, length-append (run_changes a run) (changes_of a runs)))
 
 -- where a stretch may stand, from what is seen of the changes
-pub can_extend : (a : Area) (runs : List Run) (seen : ChangeList) (first : Pos) (n : ℕ) → record { area = a; list = changes_of a runs } ≡ seen
+pub can_extend : (a : Area) (runs : List ContentRun) (seen : ChangeList) (first : Pos) (n : ℕ) → record { area = a; list = changes_of a runs } ≡ seen
     → rises seen.area (positions seen.list ++ first ∷ []) ≡ true → place_in_chunk seen.area first + n ≤ volume (chunk_box seen.area first) → (n ≡ 0 → ⊥)
     → CanExtend a (changes_of a runs) first n
 can_extend a runs seen first n is rising fits some =
@@ -299,36 +292,35 @@ can_extend a runs seen first n is rising fits some =
     }
 
 -- what is seen of the changes with a stretch more
-pub seen_longer : (a : Area) (runs : List Run) (count : ℕ) (seen : ChangeList) (first : Pos) (n : ℕ) (b c : BlockContent) (longer : List Run) → record { area = a; list = changes_of a runs } ≡ seen
-    → same_content b c ≡ false → IsExtended a runs count first n b c longer → changes_of a longer ≡ seen.list ++ kept_stretch seen.area first n b c
-seen_longer a runs count seen first n b c longer is differs more =
-    let kept : changes_of a longer ≡ changes_of a runs ++ kept_stretch a first n b c = rw differs more.list in
-    kept ∙ ap (λ (s : ChangeList). s.list ++ kept_stretch s.area first n b c) is
+pub seen_longer : (a : Area) (runs : List ContentRun) (count : ℕ) (seen : ChangeList) (first : Pos) (n : ℕ) (b c : BlockContent) (longer : List ContentRun) → record { area = a; list = changes_of a runs } ≡ seen
+    → IsExtended a runs count first n b c longer → changes_of a longer ≡ seen.list ++ stretch seen.area first n b c
+seen_longer a runs count seen first n b c longer is more = more.list ∙ ap (λ (s : ChangeList). s.list ++ stretch s.area first n b c) is
 
 -- changes go on being changes with unlike contents behind them
-pub changes_kept : (a : Area) (runs : List Run) (count : ℕ) (first : Pos) (n : ℕ) (b c : BlockContent) (longer : List Run) → AreChangesKept a runs count → same_content b c ≡ false
-    → IsExtended a runs count first n b c longer → AreChangesKept a longer (count + n)
-changes_kept a runs count first n b c longer kept differs more = record {
-  kept = more.kept;
-  changing = rw (more.list, list_all-append is_change (changes_of a runs) (stretch a first n b c)) (both_true kept.changing (cells_change (chunk_box a first) b c (place_in_chunk a first) n differs));
-}
+pub changing_more : (a : Area) (list : List Proposed) (first : Pos) (n : ℕ) (b c : BlockContent) → list_all is_change list ≡ true → same_content b c ≡ false → list_all is_change (list ++ stretch a first n b c) ≡ true
+changing_more a list first n b c changing differs =
+    rw (list_all-append is_change list (stretch a first n b c)) (both_true changing (cells_change (chunk_box a first) b c (place_in_chunk a first) n differs))
+
+-- a stretch whose contents differ is kept
+pub kept_by_difference : (a : Area) (first : Pos) (n : ℕ) (b c : BlockContent) → same_content b c ≡ false → kept_stretch a first n b c ≡ stretch a first n b c
+kept_by_difference a first n b c differs = rw differs refl
 
 -- the same from what is read and seen: a longer last run, or a run more
-pub grown : (a : Area) (runs read : List Run) (count : ℕ) (seen : ChangeList) (first : Pos) (n : ℕ) (b c : BlockContent) → is_world_box a ≡ true → AreKept a runs count
+pub grown : (a : Area) (runs read : List ContentRun) (count : ℕ) (seen : ChangeList) (first : Pos) (n : ℕ) (b c : BlockContent) → is_world_box a ≡ true → AreKept a runs count
     → record { area = a; list = changes_of a runs } ≡ seen → rises seen.area (positions seen.list ++ first ∷ []) ≡ true → place_in_chunk seen.area first + n ≤ volume (chunk_box seen.area first)
     → (n ≡ 0 → ⊥) → read ≡ runs → goes_on_behind a (changes_of a read) (record { at = first; before = b; after = c }) ≡ true
     → IsExtended a runs count first n b c (with_last_longer runs n)
 grown a runs read count seen first n b c box kept is rising fits some same on =
     lengthened a runs count first n b c box kept (can_extend a runs seen first n is rising fits some)
-    (subst (λ (rs : List Run). goes_on_behind a (changes_of a rs) (record { at = first; before = b; after = c }) ≡ true) same on)
+    (subst (λ (rs : List ContentRun). goes_on_behind a (changes_of a rs) (record { at = first; before = b; after = c }) ≡ true) same on)
 
-pub started : (a : Area) (runs read : List Run) (count : ℕ) (seen : ChangeList) (first : Pos) (n : ℕ) (b c : BlockContent) → is_world_box a ≡ true → AreKept a runs count
+pub started : (a : Area) (runs read : List ContentRun) (count : ℕ) (seen : ChangeList) (first : Pos) (n : ℕ) (b c : BlockContent) → is_world_box a ≡ true → AreKept a runs count
     → record { area = a; list = changes_of a runs } ≡ seen → rises seen.area (positions seen.list ++ first ∷ []) ≡ true → place_in_chunk seen.area first + n ≤ volume (chunk_box seen.area first)
     → (n ≡ 0 → ⊥) → read ≡ runs → goes_on_behind a (changes_of a read) (record { at = first; before = b; after = c }) ≡ false
     → IsExtended a runs count first n b c (runs ++ record { first = first; start = count; length = n; before = b; after = c } ∷ [])
 started a runs read count seen first n b c box kept is rising fits some same apart =
     begun a runs count first n b c box kept (can_extend a runs seen first n is rising fits some)
-    (subst (λ (rs : List Run). goes_on_behind a (changes_of a rs) (record { at = first; before = b; after = c }) ≡ false) same apart)
+    (subst (λ (rs : List ContentRun). goes_on_behind a (changes_of a rs) (record { at = first; before = b; after = c }) ≡ false) same apart)
 
 -- a stretch of one cell is that change
 pub one_cell : (a : Area) (p : Pos) (b c : BlockContent) → holds a p ≡ true → kept_stretch a p 1 b c ≡ kept_change (record { at = p; before = b; after = c })

@@ -1,13 +1,11 @@
--- Captured cells, and the runs that they are kept in.
+-- Captured cells that are kept as runs, and the search of runs for a position.
 use Rattle.std.specs.Prelude.{◌≡◌, ℕ, ◌+◌, ◌<◌, ◌≤◌, if◌then◌else◌, List, map, Some, slice_get}
 use Rattle.std.specs.List.{range_with_len}
 use Rattle.edit_terms.specs.declared.pos.Pos.{Pos}
 use Rattle.edit_terms.specs.Area.{Area, holds, index_of, position_of, volume}
 use Rattle.edit_terms.specs.World.{BlockContent}
 use Rattle.edit_terms.specs.Chunk.{chunk_box, place_in_chunk}
-use Rattle.change_set.specs.Changes.{changes_of, afters}
 use Rattle.change_set.specs.declared.run.Run.{Run}
-use Rattle.change_set.specs.declared.cell_run.CellRun.{CellRun}
 
 -- What contracts see of cells that are kept as runs: the box of their world, and the cells in order.
 pub record BoxCells : Type 0 where
@@ -22,24 +20,16 @@ cell_positions cells = map (λ c. c.0) cells
 abbrev pub stretch_cells : Area → Pos → ℕ → BlockContent → List (Pos × BlockContent)
 stretch_cells a first count content = map (λ place. (position_of (chunk_box a first) place, content)) (range_with_len (place_in_chunk a first) count)
 
--- a run of cells as one of changes, at which the content stays
-abbrev pub as_run : CellRun → Run
-as_run run = record { first = run.first; start = run.start; length = run.length; before = run.content; after = run.content }
-
--- the cells of runs, one run after another
-abbrev pub cells_of : Area → List CellRun → List (Pos × BlockContent)
-cells_of a runs = afters (changes_of a (map as_run runs))
-
 -- the place of a position in the box, and the box's end where it isn't of the box
 abbrev pub place_or_end : Area → Pos → ℕ
 place_or_end a p = if holds a p then index_of a p else volume a
 
 -- the run at a place among the runs, if there is one, starts behind a place of the box
-abbrev pub StartsBehind : Area → List CellRun → ℕ → ℕ → Type 0
-StartsBehind a runs k place = (run : CellRun) → slice_get runs k ≡ Some run → place < index_of a run.first
+abbrev pub StartsBehind : Area → List Run → ℕ → ℕ → Type 0
+StartsBehind a runs k place = (run : Run) → slice_get runs k ≡ Some run → place < index_of a run.first
 
 -- the run is the last one that doesn't start behind a place of the box
-pub record IsLastFrom (a : Area) (runs : List CellRun) (place : ℕ) (run : CellRun) : Type 0 where
+pub record IsLastFrom (a : Area) (runs : List Run) (place : ℕ) (run : Run) : Type 0 where
   pub number : ℕ
   pub is : slice_get runs number ≡ Some run
   pub from : index_of a run.first ≤ place

@@ -1,12 +1,13 @@
 -- Changes of a world as a list, and the runs that such a list is kept in.
 use Rattle.std.specs.Prelude.{◌≡◌, ℕ, ◌+◌, ◌<◌, ◌≤◌, Bool, true, false, ◌&&◌, not, if◌then◌else◌, List, [], ◌∷◌, ◌++◌, map, take, drop, nat_le}
-use Rattle.std.specs.List.{All, range_with_len, flat_map}
+use Rattle.std.specs.List.{All, IsDistinct, range_with_len, flat_map}
 use Rattle.edit_terms.specs.declared.pos.Pos.{Pos}
 use Rattle.edit_terms.specs.Area.{Area, holds, index_of, position_of, volume}
 use Rattle.edit_terms.specs.World.{BlockContent}
 use Rattle.edit_terms.specs.Same.{same_content}
 use Rattle.edit_terms.specs.Chunk.{chunk_box, place_in_chunk, is_next_cell}
 use Rattle.change_set.specs.declared.run.Run.{Run}
+use Rattle.change_set.specs.ContentRun.{ContentRun, all_looked_up, AreNumbered}
 use Rattle.change_set.specs.declared.proposed.Proposed.{Proposed}
 
 -- What contracts see of changes: the box of their world, and the changes in order, each with its position and
@@ -54,11 +55,11 @@ abbrev pub kept_stretch : Area → Pos → ℕ → BlockContent → BlockContent
 kept_stretch a first count before after = if same_content before after then [] else stretch a first count before after
 
 -- the changes that a run stands for
-abbrev pub run_changes : Area → Run → List Proposed
+abbrev pub run_changes : Area → ContentRun → List Proposed
 run_changes a run = stretch a run.first run.length run.before run.after
 
 -- the changes of runs, one run after another
-abbrev pub changes_of : Area → List Run → List Proposed
+abbrev pub changes_of : Area → List ContentRun → List Proposed
 changes_of a runs = flat_map (run_changes a) runs
 
 -- d goes on where c ended: its position is the next cell, and it has the same contents before and after
@@ -84,15 +85,18 @@ goes_on_behind a (c ∷ e ∷ cs) d = goes_on_behind a (e ∷ cs) d
 
 -- The run is one of a list: it has cells, they are of one chunk's part from a position of the box on, and its changes
 -- are those that stand in the list from its place on.
-pub record IsRunOf (seen : ChangeList) (run : Run) : Type 0 where
+pub record IsRunOf (seen : ChangeList) (run : ContentRun) : Type 0 where
   pub some : 0 < run.length
   pub held : holds seen.area run.first ≡ true
   pub fits : place_in_chunk seen.area run.first + run.length ≤ volume (chunk_box seen.area run.first)
   pub changes : take run.length (drop run.start seen.list) ≡ run_changes seen.area run
 
--- The runs of a list: they begin where its breaks stand, their changes one after another are the list, and each of them
--- is a run of it.
-pub record AreRunsOf (seen : ChangeList) (runs : List Run) : Type 0 where
-  pub whole : changes_of seen.area runs ≡ seen.list
+-- The runs of a list, by the numbers of their contents among these: with the contents looked up, they begin where the
+-- list's breaks stand, their changes one after another are the list, and each of them is a run of it. No two of the
+-- contents are equal.
+pub record AreRunsOf (seen : ChangeList) (contents : List BlockContent) (runs : List Run) : Type 0 where
+  pub whole : changes_of seen.area (all_looked_up contents runs) ≡ seen.list
   pub starts : map (λ run. run.start) runs ≡ breaks seen.area seen.list
-  pub each : All (IsRunOf seen) runs
+  pub each : All (IsRunOf seen) (all_looked_up contents runs)
+  pub numbered : AreNumbered contents runs
+  pub distinct : IsDistinct same_content contents

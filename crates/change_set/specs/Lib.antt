@@ -1,3 +1,4 @@
+pub mod ContentRun
 pub mod Changes
 pub mod Runs
 pub mod Kept

@@ -12,9 +12,9 @@ use std::marker::Model;
 
 /// Changes under construction, in index order.
 ///
-/// A content is copied only where a run begins: what goes on where the changes ended makes the last run
-/// longer.
-#[derive(Debug, Drop)]
+/// A content is copied only where the changes have none that is equal, and looked up only where a run begins:
+/// what goes on where the changes ended makes the last run longer.
+#[derive(Drop)]
 pub struct ChangeBuilder {
     alloc: Global,
     changes: Changes,

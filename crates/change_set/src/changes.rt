@@ -1,64 +1,65 @@
 //! Changes of a world, kept as runs.
 ghost use Rattle.std.specs.Prelude.{◌≡◌, ◌+◌, ◌<◌, ◌≤◌, [], ◌∷◌, ◌++◌, true, length, OnOk, OnErr};
 ghost use Rattle.std.specs.List.{list_all};
-ghost use Rattle.change_set.specs.Changes.{rises, positions, is_change, kept_stretch, AreRunsOf};
-ghost use Rattle.edit_terms.specs.Chunk.{chunk_box, place_in_chunk};
-ghost use Rattle.change_set.specs.Runs.{IsRunAt};
 ghost use Rattle.edit_terms.specs.Area.{volume};
+ghost use Rattle.edit_terms.specs.Chunk.{chunk_box, place_in_chunk};
+ghost use Rattle.change_set.specs.Changes.{rises, positions, is_change, kept_stretch, AreRunsOf};
+ghost use Rattle.change_set.specs.Runs.{IsRunAt, lent_run};
 
-use crate::grow::{goes_on, lengthen_last};
-use crate::read::run_at;
-use crate::run::Run;
-use edit_terms::{Content, Pos, WorldBox};
+use crate::numbered_runs::NumberedRuns;
+use crate::read::RunAt;
+use crate::run_list::RunList;
+use edit_terms::{BlockState, CellList, Content, Entity, Pos, Stretch, WorldBox};
 use memory::Memory;
 use std::alloc::Global;
 use std::marker::Model;
+use std::sync::Arc;
 
 /// The changes of a world: at strictly rising positions of its box, in index order, a content before and
 /// another one after.
 ///
 /// They are kept as runs, so their room grows with the breaks of the list and not with its length.
-#[derive(Debug, Drop)]
+#[derive(Drop)]
 pub struct Changes {
-    area: WorldBox,
-    runs: Vec<Run>,
-    count: u32,
+    runs: RunList,
 }
 
 impl Model for Changes {
-    ghost use Rattle.change_set.specs.Changes.{ChangeList, changes_of};
-    ghost use Rattle.change_set.specs.Runs.{AreChangesKept};
+    ghost use Rattle.std.specs.Prelude.{◌≡◌, true};
+    ghost use Rattle.std.specs.List.{list_all};
+    ghost use Rattle.change_set.specs.Changes.{ChangeList, is_change};
 
     ghost Value = { ChangeList };
 
-    ghost view = { λ c. record { area = c.area; list = changes_of c.area c.runs.items } };
+    ghost view = { λ c. c.runs };
 
-    ghost invariant = { λ c. AreChangesKept c.area c.runs.items c.count };
+    ghost invariant = { λ c. list_all is_change c.runs.list ≡ true };
 }
 
 impl Changes {
     /// How many changes there are.
+    #[tactic(auto, using(crate::proofs::ReadLemmas::as_many))]
     pub fn len(&self) -> u32
         ensures { result ≡ length self.now.list }
     {
-        self.count
+        self.runs.len()
     }
 
     /// The runs of the changes in order: a break stands at the first change, at each one whose position is
     /// not the next cell of its chunk behind the one before, and at each one whose contents before and after
-    /// are not those of the one before; a run goes from one break to the next. Each has cells of one chunk, and
-    /// its changes stand in the list from its place on.
-    pub fn runs(&self) -> &[Run]
-        ensures { AreRunsOf self.now result.now }
+    /// are not those of the one before; a run goes from one break to the next. Each has cells of one chunk,
+    /// its changes stand in the list from its place on, and it names its contents by numbers.
+    pub fn runs(&self) -> NumberedRuns<'_>
+        ensures { AreRunsOf self.now result.contents.now result.runs.now }
     {
-        &self.runs
+        self.runs.runs()
     }
 
     /// The box of the world.
     pub fn area(&self) -> &WorldBox
         ensures { result.now ≡ self.now.area }
     {
-        &self.area
+        self.runs.area()
     }
 
     /// Does nothing: the positions are of the box and strictly rise in index order, and the contents of each
@@ -67,7 +68,7 @@ impl Changes {
         ensures rising { rises self.now.area (positions self.now.list) ≡ true }
         ensures changing { list_all is_change self.now.list ≡ true }
     {
-        let _count = self.count;
+        self.runs.well_formed();
     }
 
     /// No changes of a world of this box.
@@ -75,9 +76,7 @@ impl Changes {
         ensures { result ≡ record { area = area.now; list = [] } }
     {
         Changes {
-            area: *area,
-            runs: Vec::new(alloc),
-            count: 0,
+            runs: RunList::none(alloc, area),
         }
     }
 
@@ -99,32 +98,48 @@ impl Changes {
         ensures added { OnOk result (self.new.list ≡ self.old.list ++ kept_stretch self.old.area first.now count before.now after.now) }
         ensures unchanged { OnErr result (self.new ≡ self.old) }
     {
-        if count == 0 || before == after {
+        if before == after {
             return Ok(());
         }
-        self.area.well_formed();
-        if goes_on(&self.area, &self.runs, first, before, after) {
-            lengthen_last(&mut self.runs, count);
-            self.count += count;
-            return Ok(());
-        }
-        let run = Run {
-            first: *first,
-            start: self.count,
-            length: count,
-            before: before.copy(alloc)?,
-            after: after.copy(alloc)?,
-        };
-        self.runs.push(run)?;
-        self.count += count;
+        self.runs.extend(alloc, first, count, before, after)?;
         Ok(())
     }
 
     /// The run that has the change at a place of the list.
-    pub(crate) fn run_of(&self, i: u32) -> &Run
+    pub(crate) fn run_of(&self, i: u32) -> RunAt<'_>
         requires { i < length self.now.list }
-        ensures { IsRunAt self.now.area self.now.list i result.now }
+        ensures { IsRunAt self.now.area self.now.list i (lent_run result) }
     {
-        run_at(&self.area, &self.runs, i)
+        self.runs.run_of(i)
+    }
+}
+
+impl CellList for Changes {
+    ghost use Rattle.change_set.specs.Changes.{afters};
+
+    ghost cells = { λ c. afters c.list };
+
+    fn len(&self) -> u32 {
+        CellList::len(&self.runs)
+    }
+
+    fn at(&self, i: u32) -> Pos {
+        self.runs.at(i)
+    }
+
+    fn state(&self, i: u32) -> &BlockState {
+        self.runs.state(i)
+    }
+
+    fn entity(&self, i: u32) -> Option<&Arc<Entity>> {
+        self.runs.entity(i)
+    }
+
+    fn reach(&self, i: u32) -> u32 {
+        self.runs.reach(i)
+    }
+
+    fn stretch(&self, i: u32) -> Option<Stretch> {
+        self.runs.stretch(i)
     }
 }

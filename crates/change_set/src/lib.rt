@@ -5,27 +5,30 @@
 //! alone.
 #![tactic(auto)]
 
+mod befores;
 mod between;
 mod builder;
-mod cell_run;
 mod cell_runs;
-mod cells;
 mod changes;
+mod contents;
 mod grow;
 mod kept;
+mod numbered_runs;
 mod part;
 mod part_builder;
 mod proposed;
 mod read;
 mod run;
+mod run_list;
 mod search;
 mod sorted_cells;
 
+pub use befores::Befores;
 pub use builder::ChangeBuilder;
-pub use cells::Befores;
 pub use changes::Changes;
 pub use kept::Kept;
 pub use memory::Memory;
+pub use numbered_runs::NumberedRuns;
 pub use part::Part;
 pub use part_builder::PartBuilder;
 pub use proposed::Proposed;

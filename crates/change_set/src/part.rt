@@ -14,7 +14,7 @@ use std::sync::Arc;
 /// Cells that come one by one are sorted in place (`from_cells`); those that a `PartBuilder` was given lie in
 /// runs, so that their room grows with the breaks of the list and not with its length. Contracts don't tell
 /// the two forms apart.
-#[derive(Debug, Drop)]
+#[derive(Drop)]
 pub struct Part {
     source: Source,
     chunk: u32,
@@ -22,7 +22,7 @@ pub struct Part {
 }
 
 /// How the cells of a part are kept.
-#[derive(Debug, Drop)]
+#[derive(Drop)]
 enum Form {
     /// One by one.
     Sorted(SortedCells),

@@ -15,9 +15,9 @@ use std::marker::Model;
 
 /// A part under construction, in index order.
 ///
-/// A content is copied only where a run begins: what goes on where the cells ended, with the content of the
-/// last one, makes the last run longer.
-#[derive(Debug, Drop)]
+/// A content is copied only where the part has none that is equal, and looked up only where a run begins: what
+/// goes on where the cells ended, with the content of the last one, makes the last run longer.
+#[derive(Drop)]
 pub struct PartBuilder {
     alloc: Global,
     source: Source,

@@ -1,8 +1,8 @@
-use edit_terms::{Content, Pos};
+use edit_terms::Pos;
 
 /// A stretch of changes that have one content before and one after: the cells of a chunk from the first one
-/// on in index order, as many as its length.
-#[derive(Debug, Drop)]
+/// on in index order, as many as its length. The contents stand in the list that the changes keep of them.
+#[derive(Clone, Copy, Debug, PartialEq, Eq)]
 pub struct Run {
     /// The first cell.
     pub first: Pos,
@@ -10,8 +10,8 @@ pub struct Run {
     pub start: u32,
     /// How many cells it has, at least 1.
     pub length: u32,
-    /// What stood at each of them.
-    pub before: Content,
-    /// What stands there afterwards.
-    pub after: Content,
+    /// The number of what stood at each of them.
+    pub before: u32,
+    /// The number of what stands there afterwards.
+    pub after: u32,
 }

@@ -1,22 +1,22 @@
-//! Searching the runs of captured cells for a position.
+//! Searching runs for a position.
 ghost use Rattle.std.specs.Prelude.{◌≡◌, ◌≢◌, ◌+◌, ◌<◌, ◌≤◌, ℕ, true, map, Some, slice_get, MatchOption, IfSome};
 ghost use Rattle.edit_terms.specs.Area.{holds, index_of, position_of, volume};
-ghost use Rattle.edit_terms.specs.CellList.{position_in};
 ghost use Rattle.change_set.specs.Changes.{rises, positions, changes_of};
 ghost use Rattle.edit_terms.specs.Chunk.{chunk_box, place_in_chunk};
 ghost use Rattle.change_set.specs.Runs.{AreRunsFrom};
-ghost use Rattle.change_set.specs.Cells.{as_run, cells_of, place_or_end, StartsBehind, IsLastFrom};
+ghost use Rattle.change_set.specs.ContentRun.{as_run};
+ghost use Rattle.change_set.specs.Cells.{place_or_end, StartsBehind, IsLastFrom};
 
-use crate::cell_run::CellRun;
+use crate::run::Run;
 use edit_terms::{Pos, WorldBox, chunk_box};
 
 /// The place of a cell of this position in the list of the runs' cells. None exactly where no cell has it.
-pub(crate) fn find_in_runs(area: &WorldBox, runs: &[CellRun], p: &Pos) -> Option<u32>
+pub(crate) fn find_in_runs(area: &WorldBox, runs: &[Run], p: &Pos) -> Option<u32>
     requires each { AreRunsFrom area.now 0 (map as_run runs.now) }
     requires rising { rises area.now (positions (changes_of area.now (map as_run runs.now))) ≡ true }
     ensures { MatchOption result
-        ((i : ℕ) → position_in (cells_of area.now runs.now) i ≢ Some p.now)
-        (λ i. position_in (cells_of area.now runs.now) i ≡ Some p.now) }
+        ((i : ℕ) → slice_get (positions (changes_of area.now (map as_run runs.now))) i ≢ Some p.now)
+        (λ i. slice_get (positions (changes_of area.now (map as_run runs.now))) i ≡ Some p.now) }
 {
     area.well_formed();
     let Some(place) = area.index_of(*p) else {
@@ -32,7 +32,7 @@ pub(crate) fn find_in_runs(area: &WorldBox, runs: &[CellRun], p: &Pos) -> Option
 }
 
 /// The last run whose first cell doesn't stand behind a place of the box.
-fn last_from<'a>(area: &WorldBox, runs: &'a [CellRun], place: u32) -> Option<&'a CellRun>
+fn last_from<'a>(area: &WorldBox, runs: &'a [Run], place: u32) -> Option<&'a Run>
     requires each { AreRunsFrom area.now 0 (map as_run runs.now) }
     requires rising { rises area.now (positions (changes_of area.now (map as_run runs.now))) ≡ true }
     ensures { MatchOption result (StartsBehind area.now runs.now 0 place) (λ run. IsLastFrom area.now runs.now place run.now) }

@@ -1,5 +1,5 @@
 -- A work changes nothing outside its extent.
-use Rattle.std.proofs.Common.{◌≡◌, ℕ, ◌*◌, ◌<◌, Bool, true, false, ◌&&◌, cond, pos, ◌+ℤ◌, ◌-ℤ◌, Some, None, refl, sym, ap, ◌∙◌, subst, arith}
+use Rattle.std.proofs.Common.{◌≡◌, ℕ, ◌*◌, ◌<◌, Bool, true, false, ◌&&◌, cond, pos, ◌+ℤ◌, ◌-ℤ◌, Some, None, refl, sym, ap, ◌∙◌, arith}
 use Rattle.std.specs.Prelude.{Option, not, neg_ℤ, is_some}
 use Rattle.std.specs.Option.{option_map_or}
 use Rattle.std.proofs.lemmas.Int.{ints}
@@ -12,7 +12,7 @@ use Rattle.edit_terms.specs.declared.region.Region.{Region}
 use Rattle.edit_terms.specs.declared.region.Region.TheVariants.{Selected}
 use Rattle.edit_terms.specs.declared.region.Selection.{Selection}
 use Rattle.edit_terms.specs.declared.step.Work.{Work}
-use Rattle.edit_terms.specs.Area.{Area, holds, position_of, volume, is_world_box}
+use Rattle.edit_terms.specs.Area.{holds, position_of, volume, is_world_box}
 use Rattle.edit_terms.specs.Clipboard.{relative_to}
 use Rattle.edit_terms.specs.Draw.{mask_use}
 use Rattle.edit_terms.specs.Frame.{frame_of_selection, size_along}

@@ -17,7 +17,7 @@ use Rattle.edit_terms.specs.Clipboard.{clip_box_of, clipboard_of, relative_to, p
 use Rattle.edit_terms.specs.Frame.{IsRegion, IsSelection, frame_of, frame_of_selection}
 use Rattle.edit_terms.specs.Grid.{is_same_pos}
 use Rattle.edit_terms.specs.Neighbour.{away}
-use Rattle.edit_terms.specs.Region.{is_inside, is_selected}
+use Rattle.edit_terms.specs.Region.{is_inside}
 use Rattle.edit_terms.specs.World.{World}
 use Rattle.edit_terms.proofs.AreaLemmas.{and_both}
 use Rattle.edit_terms.proofs.ClipboardLemmas.{cells_in_bounds}
@@ -29,7 +29,7 @@ use Rattle.region_shapes.specs.declared.extent.Extent.{Extent}
 use Rattle.region_shapes.specs.declared.interval.Interval.{Interval}
 use Rattle.region_shapes.specs.Extents.{extent_of, is_in_extent}
 use Rattle.region_shapes.specs.Interval.{is_among, numbers_from}
-use Rattle.plain_effects.specs.Sections.{is_in_some, HasAll, HasBrought, strip_of}
+use Rattle.plain_effects.specs.Sections.{HasAll, HasBrought, strip_of}
 use Rattle.plain_effects.proofs.Boxes.{held}
 
 -- ---- regions

@@ -15,9 +15,10 @@ use Rattle.run_terms.specs.Change.{Change, content_of}
 use Rattle.run_terms.specs.Effect.{effect_of, effect_at}
 use Rattle.run_terms.proofs.Lists.{All-filter_map-range}
 use Rattle.world_canvas.specs.Proposals.{Proposal, proposal_at, proposals_for}
-use Rattle.plain_effects.specs.declared.extent.Extent.{Extent}
+use Rattle.region_shapes.specs.declared.extent.Extent.{Extent}
+use Rattle.region_shapes.specs.Extents.{is_in_extent}
 use Rattle.plain_effects.specs.declared.section.Section.{Section}
-use Rattle.plain_effects.specs.Sections.{is_in_extent, is_in_section, HasExtent, StaysOutside}
+use Rattle.plain_effects.specs.Sections.{is_in_section, HasExtent, StaysOutside}
 use Rattle.plain_effects.specs.Jobs.{PlainJob, task_with, own_task, is_of_itself, IsOfItself}
 
 -- ---- one place

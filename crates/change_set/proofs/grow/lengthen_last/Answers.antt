@@ -1,6 +1,6 @@
 use Rattle.std.proofs.Common.{◌≡◌, ◌+◌, ◌-◌, ◌<◌, length, ap, arith}
 use Rattle.std.proofs.lemmas.Option.{slice_get_read}
-use Rattle.change_set.proofs.RunLemmas.{set_last}
+use Rattle.change_set.proofs.ContentLemmas.{set_last_run}
 use Rattle.change_set.proofs.grow.lengthen_last.Goals as goal
 
 pub returns : goal.returns
@@ -12,4 +12,4 @@ returns c =
     let k = length c.as_slice.result.now - 1 in
     let last : k + 1 ≡ length runs = omega (arith, long, some) in
     let below : k < length runs = omega (arith, last) in
-    set_last runs k c.args.more run last (slice_get_read runs (length runs) k run (λ i. length runs) below c.index_mut-run.ensures.value)
+    set_last_run runs k c.args.more run last (slice_get_read runs (length runs) k run (λ i. length runs) below c.index_mut-run.ensures.value)

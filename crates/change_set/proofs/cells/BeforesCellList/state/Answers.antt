@@ -1,9 +1,0 @@
-use Rattle.std.proofs.Common.{Some, sym, ap, ◌∙◌, arith}
-use Rattle.change_set.specs.Changes.{befores}
-use Rattle.change_set.proofs.ReadLemmas.{before_read, state_there}
-use Rattle.change_set.proofs.cells.BeforesCellList.state.Goals as goal
-
-pub returns : goal.returns
-returns c =
-    let there = before_read c.args.self.now.changes.now.area c.args.self.now.changes.now.list c.args.i c.run_of-run.result.now c.run_of-run.ensures c.args.i (omega arith) c.run_of-run.ensures.to in
-    state_there (befores c.args.self.now.changes.now.list) c.args.i _ c.run_of-run.result.now.before there ∙ ap Some (sym c.state_of.ensures)
