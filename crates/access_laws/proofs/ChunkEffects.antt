@@ -37,7 +37,7 @@ module _ (area : Area) (cs ds : List BlockContent) (task : Task) (copied : Copie
   of_needs_in chunk h index below listed =
       let column = λ (y : ℤ). ap (λ (c : BlockContent). c.state) (content_same area cs ds (chunk ∷ []) h.contents (record (position_of area index) { y = y }) listed) in
       get_or-map-range_with_len (effect_at task w) 0 (volume area) index index air_content below (omega arith)
-      ∙ of_needs index (record { area = refl; content = h.contents index below listed; column = column; sources = h.sources; clipboard = h.clipboard; changes = h.changes index listed })
+      ∙ of_needs index (record { area = refl; content = h.contents index below listed; column = column; sources = h.sources; clipboard = h.clipboard; changes = h.changes index below listed })
       ∙ sym (get_or-map-range_with_len (effect_at other v) 0 (volume area) index index air_content below (omega arith))
 
 -- a job's effect at a place is told by what it needs there

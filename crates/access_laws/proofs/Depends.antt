@@ -158,7 +158,7 @@ module _ (area : Area) (cs ds : List BlockContent) (chunks : List ℕ) (agree : 
           λ i. cond (holds area p) (same i) air_content
 
 -- the first item that passes a test does
-find_passes : {X : Type 0} (test : X → Bool) (xs : List X) → IfSome (find test xs) (λ x. test x ≡ true)
+pub find_passes : {X : Type 0} (test : X → Bool) (xs : List X) → IfSome (find test xs) (λ x. test x ≡ true)
 find_passes test [] = tt
 find_passes test (x ∷ xs) = by_head (find_passes test xs) (test x) refl
   where

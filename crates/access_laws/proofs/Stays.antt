@@ -180,7 +180,7 @@ module _ (case : Workload) (limits : IsWithinLimits case) (fits : is_world_box c
         subst (λ (a : Area). option_map_or (λ bounds. holds bounds r) (clip_box_of c a) false ≡ true) same (cells_in_bounds c (world_after case order k) sound.fits r some)
 
     -- nothing is found among the changes of a ticket that leaves the place
-    unchanged : (t k : ℕ) → k < volume area → content_of (world_after case order (suc t)) k ≡ content_of (world_after case order t) k → find (λ change. eqb change.index k) (changes_of case order t) ≡ None
+    pub unchanged : (t k : ℕ) → k < volume area → content_of (world_after case order (suc t)) k ≡ content_of (world_after case order t) k → find (λ change. eqb change.index k) (changes_of case order t) ≡ None
     unchanged t k below same =
         let old = world_after case order t in
         let new = world_after case order (suc t) in

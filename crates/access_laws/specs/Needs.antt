@@ -7,7 +7,7 @@ use Rattle.edit_terms.specs.declared.pos.Pos.{Pos}
 use Rattle.edit_terms.specs.declared.region.Selection.{Selection}
 use Rattle.edit_terms.specs.declared.step.Spec.{Spec}
 use Rattle.edit_terms.specs.declared.step.Step.TheVariants.{Job}
-use Rattle.edit_terms.specs.Area.{Area, position_of}
+use Rattle.edit_terms.specs.Area.{Area, position_of, volume}
 use Rattle.edit_terms.specs.Clipboard.{CopiedBlocks}
 use Rattle.edit_terms.specs.World.{World, content_at, state_at}
 use Rattle.run_terms.specs.Workload.{Workload}
@@ -49,7 +49,7 @@ pub record HasSameNeedsIn (area : Area) (chunk : ℕ) (task : Task) (copied : Co
   pub contents : AgreeIn area (chunk ∷ []) w v
   pub sources : IfSome (selection_read task.spec.work) (λ from. HaveSameSources from w v)
   pub clipboard : needs_clipboard task.spec.work ≡ true → task.copied ≡ copied
-  pub changes : (index : ℕ) → is_in_chunks area (chunk ∷ []) index ≡ true → latest_change task.taken index ≡ latest_change taken index
+  pub changes : (index : ℕ) → index < volume area → is_in_chunks area (chunk ∷ []) index ≡ true → latest_change task.taken index ≡ latest_change taken index
 
 -- then the worlds that the job makes agree in the chunk
 abbrev pub EffectsDependOnNeedsIn : Area → ℕ → Task → CopiedBlocks → List (List Change) → World → World → Type 0

@@ -16,7 +16,7 @@ abbrev pub change_of : ℕ → BlockContent → BlockContent → Change
 change_of index before after = record { index = index; before = before; after = after }
 
 -- the functions here give each place's own change
-abbrev IsPlaced : (ℕ → Option Change) → Type 0
+abbrev pub IsPlaced : (ℕ → Option Change) → Type 0
 IsPlaced f = (k : ℕ) → IfSome (f k) (λ change. change.index ≡ k)
 
 skipped : (o : Option Change) (rest : List Change) (k i : ℕ) → (k ≡ i → ⊥) → IfSome o (λ change. change.index ≡ k) → find (λ change. eqb change.index i) (cons_option o rest) ≡ find (λ change. eqb change.index i) rest
@@ -45,7 +45,7 @@ find_within f placed a (suc n) i low high = elim (cases_lt a i) [
       ∙ ap f e
 ]
 
-change_at-placed : (old new : World) → IsPlaced (change_at old new)
+pub change_at-placed : (old new : World) → IsPlaced (change_at old new)
 change_at-placed old new k = by_test (same_content (content_of old k) (content_of new k))
   where
     by_test : (same : Bool) → IfSome (cond same None (Some (change_of k (content_of old k) (content_of new k)))) (λ change. change.index ≡ k)

@@ -57,6 +57,12 @@ fn laws_of_runs_return(_rt: HostRuntime) {
     access_laws::still_scripts_draw_nothing();
     access_laws::order_is_free();
     access_laws::outcomes_differ_in_order_alone();
+    core_laws::reached_chunks_are_serial();
+    core_laws::reached_chunks_hold_truth();
+    core_laws::finished_chunks_are_the_final_world();
+    core_laws::serial_states_stay();
+    core_laws::some_job_is_enabled();
+    core_laws::events_exchange();
 }
 
 #[test]

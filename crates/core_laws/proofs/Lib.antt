@@ -1,0 +1,10 @@
+pub mod Tickets
+pub mod KnownCells
+pub mod SerialSteps
+pub mod Parts
+pub mod Changes
+pub mod WriteStep
+pub mod Reached
+pub mod Truth
+pub mod DeadEnds
+pub mod Commuting
