@@ -34,8 +34,16 @@ fn answer<R: Threads + Wait + Sync, F: Shelf>(
     let mut text = Vec::new(alloc);
     push_number(&mut text, b"code ", u64::from(ended.code))?;
     text.extend_from_slice(&ended.text).ok()?;
-    push_number(&mut text, b"before ", fold::changed(alloc, &world, &script)?)?;
-    push_number(&mut text, b"after ", fold::changed(alloc, &ended.saved, &script)?)?;
+    push_number(
+        &mut text,
+        b"before ",
+        fold::changed(alloc, &world, &script)?,
+    )?;
+    push_number(
+        &mut text,
+        b"after ",
+        fold::changed(alloc, &ended.saved, &script)?,
+    )?;
     Some(text)
 }
 
@@ -43,6 +51,7 @@ fn answer<R: Threads + Wait + Sync, F: Shelf>(
 fn push_number(text: &mut Vec<u8>, word: &[u8], number: u64) -> Option<()> {
     let mut digits = Buffer::new();
     text.extend_from_slice(word).ok()?;
-    text.extend_from_slice(digits.format(number).as_bytes()).ok()?;
+    text.extend_from_slice(digits.format(number).as_bytes())
+        .ok()?;
     text.push(b'\n').ok()
 }

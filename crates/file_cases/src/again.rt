@@ -22,15 +22,18 @@ pub fn answer(alloc: Global, kind: &str, input: &str, answer: &mut Answer) -> Op
         "file-again" => answer_again(alloc, input, answer),
         "head" => {
             let bytes = written(alloc, &framed(alloc, input)?)?;
-            tell_head(alloc, answer, &bytes)
+            tell_head(alloc, answer, &bytes);
+            Some(())
         }
         "body" => {
             let bytes = written(alloc, &framed(alloc, input)?)?;
-            tell_body(alloc, answer, &bytes)
+            tell_body(alloc, answer, &bytes);
+            Some(())
         }
         "bare" => {
             let bytes = bare(alloc, &framed(alloc, input)?)?;
-            tell_all(alloc, answer, &bytes)
+            tell_all(alloc, answer, &bytes);
+            Some(())
         }
         _ => None,
     }
@@ -62,14 +65,14 @@ fn bare(alloc: Global, bytes: &[u8]) -> Option<Vec<u8>> {
     write_world(alloc, &carried, &world.grid).ok()
 }
 
-fn tell_head(alloc: Global, answer: &mut Answer, bytes: &[u8]) -> Option<()> {
+fn tell_head(alloc: Global, answer: &mut Answer, bytes: &[u8]) {
     let Some(root) = root_of(alloc, bytes) else {
         answer.fail();
-        return Some(());
+        return;
     };
     let Some(row) = row_of(&root) else {
         answer.fail();
-        return Some(());
+        return;
     };
     match row.get(..BEFORE_PALETTE) {
         Some(head) => show_row(alloc, answer, head),
@@ -81,14 +84,14 @@ fn tell_head(alloc: Global, answer: &mut Answer, bytes: &[u8]) -> Option<()> {
 }
 
 /// Tells the Palette of a file and what stands behind it.
-pub fn tell_body(alloc: Global, answer: &mut Answer, bytes: &[u8]) -> Option<()> {
+pub fn tell_body(alloc: Global, answer: &mut Answer, bytes: &[u8]) {
     let Some(root) = root_of(alloc, bytes) else {
         answer.fail();
-        return Some(());
+        return;
     };
     let Some(row) = row_of(&root) else {
         answer.fail();
-        return Some(());
+        return;
     };
     match row.get(BEFORE_PALETTE..) {
         Some(body) => show_row(alloc, answer, body),
@@ -99,10 +102,10 @@ pub fn tell_body(alloc: Global, answer: &mut Answer, bytes: &[u8]) -> Option<()>
     }
 }
 
-fn tell_all(alloc: Global, answer: &mut Answer, bytes: &[u8]) -> Option<()> {
+fn tell_all(alloc: Global, answer: &mut Answer, bytes: &[u8]) {
     let Some(root) = root_of(alloc, bytes) else {
         answer.fail();
-        return Some(());
+        return;
     };
     match row_of(&root) {
         Some(row) => show_row(alloc, answer, row),

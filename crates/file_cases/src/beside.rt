@@ -20,7 +20,8 @@ pub fn answer(alloc: Global, input: &str, answer: &mut Answer) -> Option<()> {
     let first = framed(alloc, first)?;
     let second = framed(alloc, second)?;
     let bytes = written(alloc, &first, &second)?;
-    tell_body(alloc, answer, &bytes)
+    tell_body(alloc, answer, &bytes);
+    Some(())
 }
 
 fn written(alloc: Global, first: &[u8], second: &[u8]) -> Option<Vec<u8>> {

@@ -67,20 +67,22 @@ fn answer_read(alloc: Global, bytes: &[u8], answer: &mut Answer) -> Option<()> {
         return None;
     }
     match read_world(alloc, bytes) {
-        Ok(world) => tell_grid(alloc, answer, &world.grid),
+        Ok(world) => {
+            tell_grid(alloc, answer, &world.grid);
+            Some(())
+        }
         Err(fault) => tell_world(answer, fault),
     }
 }
 
-fn tell_grid(alloc: Global, answer: &mut Answer, grid: &Grid) -> Option<()> {
+fn tell_grid(alloc: Global, answer: &mut Answer, grid: &Grid) {
     tell_box(answer, grid.area());
     for index in 0..grid.area().volume() {
         tell_state(alloc, answer, grid, index);
     }
     for (at, entity) in grid.entities() {
-        tell_entity(alloc, answer, at, entity)?;
+        tell_entity(alloc, answer, at, entity);
     }
-    Some(())
 }
 
 fn tell_box(answer: &mut Answer, area: &WorldBox) {
@@ -114,23 +116,22 @@ fn tell_state(alloc: Global, answer: &mut Answer, grid: &Grid, index: u32) {
     answer.bytes(&text)
 }
 
-fn tell_entity(alloc: Global, answer: &mut Answer, at: &Pos, entity: &Entity) -> Option<()> {
+fn tell_entity(alloc: Global, answer: &mut Answer, at: &Pos, entity: &Entity) {
     answer.text("; ");
     tell_position(answer, at);
     answer.text(" has ");
-    tell_tags(alloc, answer, entity.before())?;
+    tell_tags(alloc, answer, entity.before());
     answer.text(" Pos ");
     tell_tags(alloc, answer, entity.after())
 }
 
 /// The tags that these bytes spell, in brackets.
-fn tell_tags(alloc: Global, answer: &mut Answer, bytes: &[u8]) -> Option<()> {
+fn tell_tags(alloc: Global, answer: &mut Answer, bytes: &[u8]) {
     let Ok(Some(row)) = read_row(alloc, bytes, 3) else {
         answer.fail();
-        return Some(());
+        return;
     };
     answer.text("[");
-    show_row(alloc, answer, row.as_slice())?;
+    show_row(alloc, answer, row.as_slice());
     answer.text("]");
-    Some(())
 }

@@ -6,7 +6,7 @@ use std::alloc::Global;
 
 /// A named tag.
 #[cycle(show)]
-pub fn show_named(alloc: Global, out: &mut Answer, named: &Named) -> Option<()> {
+pub fn show_named(alloc: Global, out: &mut Answer, named: &Named) {
     out.text(word_of(&named.tag));
     out.text(":");
     show_text(alloc, out, named.name.as_slice());
@@ -18,7 +18,7 @@ pub fn show_named(alloc: Global, out: &mut Answer, named: &Named) -> Option<()> 
 
 /// A tag without a name.
 #[cycle(show)]
-fn show_item(alloc: Global, out: &mut Answer, tag: &Tag) -> Option<()> {
+fn show_item(alloc: Global, out: &mut Answer, tag: &Tag) {
     if is_compound(tag) {
         out.text("{");
     } else {
@@ -29,7 +29,7 @@ fn show_item(alloc: Global, out: &mut Answer, tag: &Tag) -> Option<()> {
 
 /// What stands behind a tag's type and name.
 #[cycle(show)]
-fn show_value(alloc: Global, out: &mut Answer, tag: &Tag) -> Option<()> {
+fn show_value(alloc: Global, out: &mut Answer, tag: &Tag) {
     match tag {
         Tag::List { element, items } => {
             show_list(out, *element, items.as_slice().len());
@@ -37,7 +37,7 @@ fn show_value(alloc: Global, out: &mut Answer, tag: &Tag) -> Option<()> {
         }
         Tag::Compound(row) => {
             {
-                show_inner(alloc, out, row.as_slice())?;
+                show_inner(alloc, out, row.as_slice());
                 out.text(" }");
                 Some(())
             }
@@ -50,29 +50,27 @@ fn show_value(alloc: Global, out: &mut Answer, tag: &Tag) -> Option<()> {
 }
 
 #[cycle(show)]
-fn show_items(alloc: Global, out: &mut Answer, items: &[Tag]) -> Option<()> {
+fn show_items(alloc: Global, out: &mut Answer, items: &[Tag]) {
     for item in items {
         out.text(" ");
-        show_item(alloc, out, item)?;
+        show_item(alloc, out, item);
     }
-    Some(())
 }
 
 #[cycle(show)]
-fn show_inner(alloc: Global, out: &mut Answer, row: &[Named]) -> Option<()> {
+fn show_inner(alloc: Global, out: &mut Answer, row: &[Named]) {
     for named in row {
         out.text(" ");
-        show_named(alloc, out, named)?;
+        show_named(alloc, out, named);
     }
-    Some(())
 }
 
 /// Named tags, with blanks between them.
-pub fn show_row(alloc: Global, out: &mut Answer, row: &[Named]) -> Option<()> {
+pub fn show_row(alloc: Global, out: &mut Answer, row: &[Named]) {
     let Some((first, others)) = row.split_first() else {
-        return Some(());
+        return;
     };
-    show_named(alloc, out, first)?;
+    show_named(alloc, out, first);
     show_inner(alloc, out, others)
 }
 

@@ -33,7 +33,10 @@ fn answer_tag(alloc: Global, bytes: &[u8], answer: &mut Answer) -> Option<()> {
         return None;
     }
     match decode(alloc, bytes) {
-        Ok(named) => show_named(alloc, answer, &named),
+        Ok(named) => {
+            show_named(alloc, answer, &named);
+            Some(())
+        }
         Err(fault) => tell_nbt(answer, fault),
     }
 }
@@ -44,7 +47,8 @@ fn answer_copy(alloc: Global, bytes: &[u8], answer: &mut Answer) -> Option<()> {
     }
     let Named { name, tag } = decode(alloc, bytes).ok()?;
     let copy = tag.copy(alloc).ok()?;
-    show_named(alloc, answer, &Named { name, tag: copy })
+    show_named(alloc, answer, &Named { name, tag: copy });
+    Some(())
 }
 
 fn answer_again(alloc: Global, bytes: &[u8], answer: &mut Answer) -> Option<()> {
@@ -92,7 +96,10 @@ fn answer_decoded(alloc: Global, bytes: &[u8], depth: usize, answer: &mut Answer
         return None;
     }
     match decode_row(alloc, bytes, depth) {
-        Ok(row) => show_row(alloc, answer, row.as_slice()),
+        Ok(row) => {
+            show_row(alloc, answer, row.as_slice());
+            Some(())
+        }
         Err(fault) => tell_nbt(answer, fault),
     }
 }
@@ -112,7 +119,10 @@ fn answer_read(alloc: Global, bytes: &[u8], depth: usize, answer: &mut Answer) -
         return None;
     }
     match read_row(alloc, bytes, depth).ok()? {
-        Some(row) => show_row(alloc, answer, row.as_slice()),
+        Some(row) => {
+            show_row(alloc, answer, row.as_slice());
+            Some(())
+        }
         None => {
             answer.text("none");
             Some(())
