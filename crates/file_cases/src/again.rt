@@ -76,10 +76,7 @@ fn tell_head(alloc: Global, answer: &mut Answer, bytes: &[u8]) {
     };
     match row.get(..BEFORE_PALETTE) {
         Some(head) => show_row(alloc, answer, head),
-        None => {
-            answer.fail();
-            Some(())
-        }
+        None => answer.fail(),
     }
 }
 
@@ -95,10 +92,7 @@ pub fn tell_body(alloc: Global, answer: &mut Answer, bytes: &[u8]) {
     };
     match row.get(BEFORE_PALETTE..) {
         Some(body) => show_row(alloc, answer, body),
-        None => {
-            answer.fail();
-            Some(())
-        }
+        None => answer.fail(),
     }
 }
 
@@ -109,10 +103,7 @@ fn tell_all(alloc: Global, answer: &mut Answer, bytes: &[u8]) {
     };
     match row_of(&root) {
         Some(row) => show_row(alloc, answer, row),
-        None => {
-            answer.fail();
-            Some(())
-        }
+        None => answer.fail(),
     }
 }
 

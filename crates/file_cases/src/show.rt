@@ -39,13 +39,9 @@ fn show_value(alloc: Global, out: &mut Answer, tag: &Tag) {
             {
                 show_inner(alloc, out, row.as_slice());
                 out.text(" }");
-                Some(())
             }
         }
-        _ => {
-            show_plain(alloc, out, tag);
-            Some(())
-        }
+        _ => show_plain(alloc, out, tag),
     }
 }
 
