@@ -11,9 +11,7 @@ ghost use Rattle.sponge_schematic.specs.Read.{IsWritable};
 /// Where a world can be written beside its file's carried tags, so can every world that commands make of it.
 #[tactic(auto, using(crate::proofs::Writable::writable_after))]
 pub fn last_worlds_are_writable()
-    ensures {
-        (carried : CarriedTags) (case : Workload) (order : List ℕ) → IsWorld case.opening
+    ensures { (carried : CarriedTags) (case : Workload) (order : List ℕ) → IsWorld case.opening
         → volume case.opening.area ≤ 33554432 → length carried.loose ≤ 268435456
-        → IsWritable carried case.opening → IsWritable carried (final_world case order)
-    }
+        → IsWritable carried case.opening → IsWritable carried (final_world case order) }
 {}
