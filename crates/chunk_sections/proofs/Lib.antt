@@ -1,0 +1,9 @@
+pub mod Digits
+pub mod Words
+pub mod KindTable
+pub mod SectionLemmas
+pub mod CutLemmas
+pub mod PlaceLemmas
+pub mod ColumnContents
+pub mod ChunkLaw
+pub mod CellLemmas
