@@ -7,6 +7,7 @@ use std::sync::Wait;
 use std::thread::Threads;
 
 /// What a run left: its status's code, the text that it printed, and the bytes of OUT.
+#[derive(Drop)]
 pub struct Ended {
     pub code: u8,
     pub text: Vec<u8>,
