@@ -62,10 +62,10 @@ not_same a b h = by_test (eqb a b) h
 
 -- ---- from what a job needs back to that it is enabled
 
-read_enabled : (case : Workload) (core : Core) (t chunk : ℕ) → IsReadReady case core t chunk → is_read_enabled case core t chunk ≡ true
+pub read_enabled : (case : Workload) (core : Core) (t chunk : ℕ) → IsReadReady case core t chunk → is_read_enabled case core t chunk ≡ true
 read_enabled case core t chunk h = both_true (both_true (both_true (lt-ltb t (length core.order) h.drawn) h.accessed) (ap not h.undone)) h.turn
 
-write_enabled : (case : Workload) (core : Core) (t chunk : ℕ) → IsWriteReady case core t chunk → is_write_enabled case core t chunk ≡ true
+pub write_enabled : (case : Workload) (core : Core) (t chunk : ℕ) → IsWriteReady case core t chunk → is_write_enabled case core t chunk ≡ true
 write_enabled case core t chunk h =
     both_true (both_true (both_true (both_true (both_true (lt-ltb t (length core.order) h.drawn) h.accessed) (ap not h.undone)) h.turn) h.read) h.copied
 

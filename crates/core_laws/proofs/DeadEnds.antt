@@ -58,7 +58,7 @@ module _ (case : Workload) (core : Core) where
   settled chunk t = is_settled case order chunk (core.chunks chunk) t
 
   -- each job of the ticket is done
-  abbrev IsDone : ℕ → Type 0
+  abbrev pub IsDone : ℕ → Type 0
   IsDone t = (chunk : ℕ) → settled chunk t ≡ true
 
   -- this holds, or some job is enabled
@@ -86,14 +86,14 @@ module _ (case : Workload) (core : Core) where
 
   module _ (t : ℕ) (drawn : t < length order) (before : (s : ℕ) → s < t → IsDone s) where
     -- where all smaller tickets are done it is this one's turn
-    turn : (chunk : ℕ) → has_turn case order chunk (core.chunks chunk) t ≡ true
+    pub turn : (chunk : ℕ) → has_turn case order chunk (core.chunks chunk) t ≡ true
     turn chunk = by_last (previous_access case order t chunk) (last_is (is_accessed case order chunk) t)
       where
         by_last : (o : Option ℕ) → LastIs (is_accessed case order chunk) t o → option_map_or (is_settled case order chunk (core.chunks chunk)) o true ≡ true
         by_last None none = refl
         by_last (Some p) last = before p last.below chunk
 
-    clipboard_there : (step : Step) → IfSome (clip_of step) (λ c. ticket_of order c.source < t) → is_clipboard_there case core step ≡ true
+    pub clipboard_there : (step : Step) → IfSome (clip_of step) (λ c. ticket_of order c.source < t) → is_clipboard_there case core step ≡ true
     clipboard_there Settled earlier = refl
     clipboard_there (Refused refusal) earlier = refl
     clipboard_there (Job spec) earlier = or_second (not (needs_clipboard spec.work)) (option_map_or (λ c. are_reads_done case core (ticket_of order c.source)) spec.clip true) (by_clip spec.clip earlier)

@@ -4,7 +4,9 @@ pub mod SerialSteps
 pub mod Parts
 pub mod Changes
 pub mod WriteStep
+pub mod OneChunk
 pub mod Reached
 pub mod Truth
 pub mod DeadEnds
 pub mod Commuting
+pub mod SerialRun

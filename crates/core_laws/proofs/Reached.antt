@@ -28,11 +28,12 @@ use Rattle.core_laws.specs.WriteJob.{chunk_written}
 use Rattle.core_laws.specs.Core.{Core, opening_core, reads_chunk, writes_chunk, has_turn, are_reads_done, is_clipboard_there, is_read_enabled, is_write_enabled, is_enabled, handed_to, chunk_read, with_chunk, after_event, run_from}
 use Rattle.core_laws.specs.Serial.{tickets_below, captured_by, recorded_by, is_kept, serial_chunk, IsSerialChunk, KeepsTaken, IsSerialCore, ReachesSerialCores}
 use Rattle.core_laws.proofs.Parts.{all_among}
-use Rattle.core_laws.proofs.SerialSteps.{NoneBetween, none_between, serial-same, read-serial}
+use Rattle.core_laws.proofs.OneChunk.{state_before_read, state_before_write}
+use Rattle.core_laws.proofs.SerialSteps.{read-serial}
 use Rattle.core_laws.proofs.Tickets.{tickets_are_below, filter-agrees, IsListed, all_listed, among_listed, among_below}
 use Rattle.core_laws.proofs.WriteStep.{write_step}
 
-is_false : (b : Bool) → not b ≡ true → b ≡ false
+pub is_false : (b : Bool) → not b ≡ true → b ≡ false
 is_false true h = absurd cc
 is_false false h = refl
 
@@ -165,57 +166,13 @@ module _ (case : Workload) (limits : IsWithinLimits case) (fits : is_world_box c
   abbrev order : List ℕ
   order = core.order
 
-  -- a ticket whose read job isn't done lies above those that are
-  undone_read : (t chunk : ℕ) → reads_chunk case order chunk t ≡ true → is_among (core.chunks chunk).reads t ≡ false → (serial chunk).read ≤ t
-  undone_read t chunk accessed undone = elim (cases_lt t (serial chunk).read) [
-    | inl below ↦
-        let done = ap (λ (state : ChunkState). is_among state.reads t) (serial chunk).same ∙ among_below (reads_chunk case order chunk) (serial chunk).read t below accessed in
-        absurd cc
-    | inr above ↦ above
-  ]
+  before_read : (t chunk : ℕ) → IsReadReady case core t chunk → core.chunks chunk ≡ serial_chunk case keeps order chunk t t
+  before_read t chunk ready = state_before_read case limits fits keeps order chunk (core.chunks chunk) (serial chunk) t ready.accessed ready.undone ready.turn
 
-  undone_write : (t chunk : ℕ) → writes_chunk case order chunk t ≡ true → is_among (core.chunks chunk).writes t ≡ false → (serial chunk).written ≤ t
-  undone_write t chunk accessed undone = elim (cases_lt t (serial chunk).written) [
-    | inl below ↦
-        let done = ap (λ (state : ChunkState). is_among state.writes t) (serial chunk).same ∙ among_below (writes_chunk case order chunk) (serial chunk).written t below accessed in
-        absurd cc
-    | inr above ↦ above
-  ]
-
-  none_here : (t chunk : ℕ) → has_turn case order chunk (core.chunks chunk) t ≡ true
-      → NoneBetween case limits fits keeps order chunk (serial chunk).read (serial chunk).written t (serial chunk).least (serial chunk).most
-  none_here t chunk turn =
-      none_between case limits fits keeps order chunk (serial chunk).read (serial chunk).written t (serial chunk).least (serial chunk).most
-      (ap (λ (state : ChunkState). has_turn case order chunk state t) (sym (serial chunk).same) ∙ turn)
-
-  -- before a read job the chunk is as after all smaller tickets
-  pub before_read : (t chunk : ℕ) → IsReadReady case core t chunk → core.chunks chunk ≡ serial_chunk case keeps order chunk t t
-  before_read t chunk ready =
-      let h = serial chunk in
-      let up = undone_read t chunk ready.accessed ready.undone in
-      let none = none_here t chunk ready.turn in
-      h.same ∙ serial-same case limits fits keeps order chunk h.read h.written t t up (omega (arith, h.least, up)) none.no_read none.no_write
-
-  -- before a write job it is so too, with the ticket's read job
-  pub before_write : (t chunk : ℕ) → IsWriteReady case core t chunk → core.chunks chunk ≡ serial_chunk case keeps order chunk (suc t) t
+  before_write : (t chunk : ℕ) → IsWriteReady case core t chunk → core.chunks chunk ≡ serial_chunk case keeps order chunk (suc t) t
   before_write t chunk ready =
-      let h = serial chunk in
-      let up = undone_write t chunk ready.accessed ready.undone in
-      let none = none_here t chunk ready.turn in
-      h.same ∙ serial-same case limits fits keeps order chunk h.read h.written (suc t) t (omega (arith, h.most, up)) up (λ s low high. at_most s low high none.no_read (reads_chunk case order chunk t) refl) none.no_write
-    where
-      at_most : (s : ℕ) → (serial chunk).read ≤ s → s < suc t → ((k : ℕ) → (serial chunk).read ≤ k → k < t → reads_chunk case order chunk k ≡ false) → (b : Bool) → reads_chunk case order chunk t ≡ b → reads_chunk case order chunk s ≡ false
-      at_most s low high none b is = elim (cases_lt s t) [
-        | inl below ↦ none s low below
-        | inr above ↦ ap (reads_chunk case order chunk) (let e : s ≡ t = omega (arith, high, above) in e) ∙ own above b is
-      ]
-        where
-          own : t ≤ s → (b : Bool) → reads_chunk case order chunk t ≡ b → reads_chunk case order chunk t ≡ false
-          own above false is = is
-          own above true is =
-              let done = all_among (λ c. is_among (core.chunks c).reads t) (chunks_read case order t) chunk ready.read is in
-              let listed = among_listed (reads_chunk case order chunk) (serial chunk).read t (ap (λ (state : ChunkState). is_among state.reads t) (sym (serial chunk).same) ∙ done) in
-              absurd (omega (arith, low, above, listed.below))
+      state_before_write case limits fits keeps order chunk (core.chunks chunk) (serial chunk) t ready.accessed ready.undone ready.turn
+      (λ accessed. all_among (λ c. is_among (core.chunks c).reads t) (chunks_read case order t) chunk ready.read accessed)
 
   -- another state of one chunk leaves those of the others
   one_chunk : (chunk : ℕ) (state : ChunkState) → IsSerialChunk case keeps order chunk state → (c : ℕ) → IsSerialChunk case keeps order c ((with_chunk chunk state core).chunks c)

@@ -24,14 +24,10 @@ use Rattle.core_laws.specs.ChunkState.{Recorded, ChunkState, part_of, changes_ke
 use Rattle.core_laws.specs.Core.{Core, reads_chunk, writes_chunk, is_settled}
 use Rattle.core_laws.specs.Serial.{tickets_below, captured_by, recorded_by, is_kept, serial_chunk, IsSerialChunk}
 use Rattle.core_laws.specs.Settled.{HasPartOfSettledTickets, IsTruePart, IsTrueRecord, HoldsTruth, IsFinished, IsOfCells, LeavesFinalWorld}
+use Rattle.core_laws.proofs.OneChunk.{serial-settled}
 use Rattle.core_laws.proofs.SerialSteps.{parts_same, asked}
 use Rattle.core_laws.proofs.Tickets.{among_listed, among_below, IsItem, items, found_same}
 use Rattle.core_laws.proofs.WriteStep.{one_in}
-
--- a job that is there is done
-pub job_done : (a b : Bool) → (a ≡ true → b ≡ true) → (not a || b) ≡ true
-job_done true b h = h refl
-job_done false b h = refl
 
 module _ (case : Workload) (limits : IsWithinLimits case) (fits : is_world_box case.opening.area ≡ true) (keeps : Source → Bool) (core : Core)
     (serial : (chunk : ℕ) → IsSerialChunk case keeps core.order chunk (core.chunks chunk)) where
@@ -47,9 +43,7 @@ module _ (case : Workload) (limits : IsWithinLimits case) (fits : is_world_box c
   behind_settled : (chunk t : ℕ) → t < (serial chunk).read → t < (serial chunk).written → is_settled case order chunk (core.chunks chunk) t ≡ true
   behind_settled chunk t in_read in_written =
       let h = serial chunk in
-      ap (λ (state : ChunkState). is_settled case order chunk state t) h.same
-      ∙ both_true (job_done (reads_chunk case order chunk t) (is_among (serial_chunk case keeps order chunk h.read h.written).reads t) (λ is. among_below (reads_chunk case order chunk) h.read t in_read is))
-      (job_done (writes_chunk case order chunk t) (is_among (serial_chunk case keeps order chunk h.read h.written).writes t) (λ is. among_below (writes_chunk case order chunk) h.written t in_written is))
+      ap (λ (state : ChunkState). is_settled case order chunk state t) h.same ∙ serial-settled case keeps order chunk h.read h.written t in_read in_written
 
   -- a settled ticket above the written ones writes nothing here
   settled_above : (chunk t : ℕ) → is_settled case order chunk (core.chunks chunk) t ≡ true → (serial chunk).written ≤ t → writes_chunk case order chunk t ≡ false

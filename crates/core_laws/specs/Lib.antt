@@ -5,3 +5,4 @@ pub mod Serial
 pub mod Settled
 pub mod Progress
 pub mod Exchange
+pub mod NextJob

@@ -2,11 +2,13 @@
 #![tactic(auto)]
 
 mod exchange;
+mod next_job;
 mod progress;
 mod serial;
 mod settled;
 
 pub use exchange::events_exchange;
+pub use next_job::next_jobs_are_events;
 pub use progress::some_job_is_enabled;
 pub use serial::reached_chunks_are_serial;
 pub use settled::{

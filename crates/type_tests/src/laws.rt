@@ -63,6 +63,7 @@ fn laws_of_runs_return(_rt: HostRuntime) {
     core_laws::serial_states_stay();
     core_laws::some_job_is_enabled();
     core_laws::events_exchange();
+    core_laws::next_jobs_are_events();
 }
 
 #[test]
